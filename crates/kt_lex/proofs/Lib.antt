@@ -1,0 +1,9 @@
+pub mod NameCharacters
+pub mod Runs
+pub mod SameText
+pub mod Digits
+pub mod Longest
+pub mod Fronts
+pub mod WordFronts
+pub mod IntegerFronts
+pub mod OperatorFronts

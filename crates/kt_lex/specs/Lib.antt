@@ -1,0 +1,4 @@
+pub mod Keywords
+pub mod Operators
+pub mod Reading
+pub mod Steps
