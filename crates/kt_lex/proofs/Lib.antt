@@ -7,3 +7,6 @@ pub mod Fronts
 pub mod WordFronts
 pub mod IntegerFronts
 pub mod OperatorFronts
+pub mod Comments
+pub mod StringUnits
+pub mod StringFronts

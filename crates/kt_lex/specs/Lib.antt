@@ -1,4 +1,7 @@
 pub mod Keywords
 pub mod Operators
+pub mod Opened
 pub mod Reading
+pub mod Scanning
 pub mod Steps
+pub mod Units

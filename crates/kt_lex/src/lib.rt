@@ -5,17 +5,14 @@
 //! names, or exactly the place where none can be formed. The functions of `laws` say what holds of every text.
 #![tactic(auto)]
 
-
+mod brackets;
 mod characters;
 mod fault;
 mod integers;
 mod keywords;
-
-
-
+mod moves;
 mod operators;
-
+mod strings;
 mod words;
 
 pub use fault::LexFault;
-
