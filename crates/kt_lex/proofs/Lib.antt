@@ -10,3 +10,7 @@ pub mod OperatorFronts
 pub mod Comments
 pub mod StringUnits
 pub mod StringFronts
+pub mod TokenSteps
+pub mod Rests
+pub mod InnerTokens
+pub mod Lexing

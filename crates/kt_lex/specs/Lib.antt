@@ -1,5 +1,6 @@
 pub mod Keywords
 pub mod Operators
+pub mod Faults
 pub mod Opened
 pub mod Reading
 pub mod Scanning

@@ -10,9 +10,12 @@ mod characters;
 mod fault;
 mod integers;
 mod keywords;
+mod lexer;
 mod moves;
+mod numbering;
 mod operators;
 mod strings;
 mod words;
 
 pub use fault::LexFault;
+pub use lexer::lex;

@@ -1,7 +1,8 @@
 -- Tokens whose names have numbers. A name's number is its place in the table: the built-in names first, then the others in the order in which they first come. This project's own.
-use Rattle.std.specs.Prelude.{◌≡◌, ℕ, List, [], ◌∷◌, codes}
+use Rattle.std.specs.Prelude.{◌≡◌, ℕ, List, [], ◌∷◌}
 use Rattle.std.specs.Str.{encode_utf8_all}
 use Rattle.kt_tree.specs.Lexemes.{Lexeme, fixed, name, return_at, number, piece, name_part}
+use Rattle.kt_tree.specs.BuiltIn.{built_in}
 use Rattle.kt_tree.specs.Names.{place_of, with_text}
 use Rattle.kt_tree.specs.Tokens.{Lexed, AreTokens}
 use Rattle.kt_tree.specs.declared.token.Kind.{Kind}
@@ -37,6 +38,12 @@ numbered texts [] = []
 numbered texts (t ∷ ts) = token_of texts t ∷ numbered (with_name texts t.lexeme) ts
 
 -- the tokens with their numbers, and the names
-pub record AreNumbered (built_in : List (List ℕ)) (ts : List Lexed) (t : Tokens) : Type 0 where
-  pub list : t.list ≡ numbered built_in ts
-  pub names : t.names ≡ names_after built_in ts
+pub record AreNumbered (first_names : List (List ℕ)) (ts : List Lexed) (t : Tokens) : Type 0 where
+  pub list : t.list ≡ numbered first_names ts
+  pub names : t.names ≡ names_after first_names ts
+
+-- the tokens of the text, with the numbers of their names, and its name table
+pub record HasTokens (text : List ℕ) (t : Tokens) : Type 0 where
+  pub lexed : List Lexed
+  pub are : AreTokens text lexed
+  pub numbered : AreNumbered built_in lexed t
