@@ -14,3 +14,5 @@ pub mod TokenSteps
 pub mod Rests
 pub mod InnerTokens
 pub mod Lexing
+pub mod MoveFacts
+pub mod LayoutLaw

@@ -10,6 +10,7 @@ mod characters;
 mod fault;
 mod integers;
 mod keywords;
+pub mod laws;
 mod lexer;
 mod moves;
 mod numbering;
