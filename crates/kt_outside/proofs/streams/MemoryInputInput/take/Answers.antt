@@ -14,7 +14,8 @@ returns-clause-takes c =
       within = search rules;
       bytes = sym left_is ∙ given_and_left bytes _ c.self.inside.at c.give-count.result given;
       at_end = λ none some.
-        let len : length c.rest_of.result.now ≡ length c.self.inside.bytes.items - c.self.inside.at = ap length rest_is ∙ length-drop c.self.inside.at bytes in
-        let past : length c.self.inside.bytes.items ≤ c.self.inside.at + c.give-count.result = omega (arith, c.give-count.ensures.count, c.piece.ensures.some) in
-        drop_of_length-le bytes past;
-      faults = search rules }
+          let len : length c.rest_of.result.now ≡ length c.self.inside.bytes.items - c.self.inside.at = ap length rest_is ∙ length-drop c.self.inside.at bytes in
+          let past : length c.self.inside.bytes.items ≤ c.self.inside.at + c.give-count.result = omega (arith, c.give-count.ensures.count, c.piece.ensures.some) in
+          drop_of_length-le bytes past;
+      faults = search rules;
+    }
