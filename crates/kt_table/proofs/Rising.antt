@@ -34,9 +34,9 @@ module _ {K V : Type 0} (cmp : K → K → Ordering) where
   rises_from_adjacent row (next ∷ rows) adjacent =
       true_both _ _ (sym (adjacent 0 row (omega arith)))
       (rises_from_adjacent next rows (λ k d h.
-        let P : ℕ → Type 0 = λ n. true ≡ is_lt (cmp (get_or (next ∷ rows) k d).0 (get_or (row ∷ next ∷ rows) n d).0) in
-        let same : suc k + 1 ≡ suc (k + 1) = omega arith in
-        subst P same (adjacent (suc k) d (omega arith))))
+      let P : ℕ → Type 0 = λ n. true ≡ is_lt (cmp (get_or (next ∷ rows) k d).0 (get_or (row ∷ next ∷ rows) n d).0) in
+      let same : suc k + 1 ≡ suc (k + 1) = omega arith in
+      subst P same (adjacent (suc k) d (omega arith))))
 
   -- of rows that rise each key is below the next
   pub adjacent_from_rises : (row : K × V) (rows : List (K × V)) → rises_from cmp row.0 rows ≡ true → (k : ℕ) (d : K × V) → k + 1 < length (row ∷ rows) → is_lt (cmp (get_or (row ∷ rows) k d).0 (get_or (row ∷ rows) (k + 1) d).0) ≡ true

@@ -1,5 +1,5 @@
 -- What a search finds in rows with strictly rising keys.
-use Rattle.std.proofs.Common.{◌≡◌, ◌≢◌, ℕ, zero, suc, ◌+◌, ◌<◌, ◌≤◌, Bool, true, false, ◌↔◌, ◌⊎◌, inl, inr, cond, List, [], ◌∷◌, length, get_or, refl, sym, ap, subst, ◌∙◌, arith, is_lt, is_eq, Less, Equal, Greater, Option, Some, None, IsNone, All}
+use Rattle.std.proofs.Common.{◌≡◌, ◌≢◌, ℕ, zero, suc, ◌+◌, ◌<◌, ◌≤◌, Bool, true, false, ◌↔◌, inl, inr, cond, List, [], ◌∷◌, length, get_or, refl, sym, ap, ◌∙◌, arith, is_lt, is_eq, Less, Equal, Greater, Option, Some, None, IsNone, All}
 use Rattle.std.specs.declared.cmp.Ordering.{Ordering}
 use Rattle.std.specs.Cmp.{IsTotalOrder}
 use Rattle.std.specs.Ordering.{ordering_index, ordering_reverse}
@@ -7,8 +7,8 @@ use Rattle.std.specs.List.Sorted.{IsNonDecreasingBy, IsPartitionPoint}
 use Rattle.std.proofs.lemmas.List.Sorted.{searchable_from_sorted}
 use Rattle.std.proofs.lemmas.Bool.{cases_order}
 use Rattle.std.proofs.lemmas.Cmp.{alike_right}
-use Rattle.kt_table.specs.Table.{rises, rises_from, first_value}
-use Rattle.kt_table.proofs.Rising.{both_true, less, rises_after, later_above, adjacent_from_rises}
+use Rattle.kt_table.specs.Table.{rises, first_value}
+use Rattle.kt_table.proofs.Rising.{less, rises_after, later_above, adjacent_from_rises}
 
 module _ {K V : Type 0} (cmp : K → K → Ordering) (o : IsTotalOrder cmp) (key : K) where
   -- of rising rows one with the key gives the value
@@ -51,6 +51,7 @@ module _ {K V : Type 0} (cmp : K → K → Ordering) (o : IsTotalOrder cmp) (key
       is_none : (r : Option V) → IsNone r → r ≡ None
       is_none None e = refl
       is_none (Some v) e = cc
+
       to_none : (r : Option V) → r ≡ None → IsNone r
       to_none None e = refl
       to_none (Some v) e = cc
@@ -63,6 +64,7 @@ module _ {K V : Type 0} (cmp : K → K → Ordering) (o : IsTotalOrder cmp) (key
       not_less Less e = cc
       not_less Equal e = refl
       not_less Greater e = refl
+
       not_below : (rows : List (K × V)) → rises cmp rows ≡ true → (k : ℕ) (d : K × V) → k + 1 < length rows → is_lt (cmp (get_or rows (k + 1) d).0 (get_or rows k d).0) ≡ false
       not_below [] e k d h = absurd (omega arith)
       not_below (row ∷ rows) e k d h = not_less _ (sym (o.antisymm _ _) ∙ less _ (adjacent_from_rises cmp row rows e k d h))
@@ -71,10 +73,12 @@ module _ {K V : Type 0} (cmp : K → K → Ordering) (o : IsTotalOrder cmp) (key
   pub none_between : (rows : List (K × V)) (place : ℕ) → IsPartitionPoint (λ row. cmp row.0 key ≡ Less) (λ row. cmp row.0 key ≡ Greater) rows place → All (λ row. cmp row.0 key ≢ Equal) rows
   none_between rows place sides k d h is =
       elim (cases_order k place) [
-        inl at ↦ at_or_above (omega arith)
-      | inr apart ↦ elim apart [
-          inl below ↦ (let low : cmp (get_or rows k d).0 key ≡ Less = sides.0 k d (omega arith) below in cc)
-        | inr above ↦ at_or_above (omega arith) ] ]
+        | inl at ↦ at_or_above (omega arith)
+        | inr apart ↦ elim apart [
+          | inl below ↦ (let low : cmp (get_or rows k d).0 key ≡ Less = sides.0 k d (omega arith) below in cc)
+          | inr above ↦ at_or_above (omega arith)
+        ]
+      ]
     where
       at_or_above : place ≤ k → ⊥
       at_or_above from = let high : cmp (get_or rows k d).0 key ≡ Greater = sides.1 k d from h in cc

@@ -8,3 +8,6 @@
 mod table;
 
 pub use table::Table;
+
+#[cfg(test)]
+mod tests;

@@ -38,7 +38,8 @@ impl<'t, K: Ord, V, const N: usize> Table<'t, K, V, N> {
         ensures value { result ≡ rises K.cmp self.now }
         ensures sorted { IsTrue result ↔ IsStrictlySortedBy K.cmp (keys_of self.now) }
     {
-        self.rows.is_sorted_by(|row, next| row.0.cmp(&next.0).is_lt())
+        self.rows
+            .is_sorted_by(|row, next| row.0.cmp(&next.0).is_lt())
     }
 
     /// The value of the one row with the key, `None` exactly where there is none. The keys must rise strictly, as

@@ -1,8 +1,5 @@
-use Rattle.std.proofs.Common.{◌≡◌, rules, is_lt, sym, ◌∙◌, subst, ap, Bool, IsTrue, ◌↔◌, List}
-use Rattle.std.specs.Map.{keys_of}
-use Rattle.std.specs.List.Sorted.{IsStrictlySortedBy}
+use Rattle.std.proofs.Common.{rules, is_lt}
 use Rattle.std.proofs.lemmas.List.Sorted.{answers_always}
-use Rattle.kt_table.specs.Table.{rises}
 use Rattle.kt_table.proofs.Rising.{rises_answer, rises-iff}
 use Rattle.kt_table.proofs.table.Table.checked.Goals as goal
 

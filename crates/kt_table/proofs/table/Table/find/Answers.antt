@@ -1,6 +1,6 @@
-use Rattle.std.proofs.Common.{◌≡◌, rules, length, ◌<◌, sym, ◌∙◌, subst, ap, List, Some, None, Equal, slice_index_or, IsTrue, true}
+use Rattle.std.proofs.Common.{◌≡◌, rules, sym, true}
 use Rattle.std.proofs.lemmas.Fn.{always_returns_same}
-use Rattle.kt_table.specs.Table.{rises, first_value}
+use Rattle.kt_table.specs.Table.{rises}
 use Rattle.kt_table.proofs.Search.{first_at, one_row, none_iff, searchable, none_between, none_found}
 use Rattle.kt_table.proofs.table.Table.find.Goals as goal
 
