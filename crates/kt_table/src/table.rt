@@ -36,6 +36,7 @@ impl<'t, K: Ord, V, const N: usize> Table<'t, K, V, N> {
     /// Whether the keys rise strictly: each is below the next, and so below all later ones.
     pub fn checked(&self) -> bool
         ensures value { result ≡ rises K.cmp self.now }
+        ensures rows { length self.now ≡ N }
         ensures sorted { IsTrue result ↔ IsStrictlySortedBy K.cmp (keys_of self.now) }
     {
         self.rows
