@@ -1,5 +1,7 @@
 -- Texts of ASCII as bytes and as characters.
 use Rattle.std.proofs.Common.{◌≡◌, ℕ, Bool, true, false, cond, ◌&&◌, ◌==◌, List, [], ◌∷◌, Option, Some, None, refl, sym, ap, ◌∙◌, inl, inr, subst, ◌<◌, nat_lt}
+use Rattle.std.proofs.Common.{bytes_eq, map, option_map}
+use Rattle.std.specs.Map.{lookup}
 use Rattle.std.specs.List.{list_all}
 use Rattle.kt_tree.specs.declared.token.Kind.{Kind}
 use Rattle.std.proofs.lemmas.Bool.{cases_Bool, and_parts, and_from, eqb-true, eq-eqb, ltb-true, true≢false}
@@ -54,3 +56,22 @@ find-chars [] b utf8 ascii = refl
 find-chars (row ∷ rows) b utf8 ascii =
     let parts = and_parts (are_ascii row.0) (list_all (λ r. are_ascii r.0) rows) ascii in
     rw (same-chars row.0 b utf8 (IsAscii-from_test row.0 parts.0), find-chars rows b utf8 parts.1)
+
+bytes_eq-same : (a b : List ℕ) → bytes_eq a b ≡ same a b
+bytes_eq-same [] [] = refl
+bytes_eq-same [] (d ∷ b) = refl
+bytes_eq-same (c ∷ a) [] = refl
+bytes_eq-same (c ∷ a) (d ∷ b) = ap (λ t. (c == d) && t) (bytes_eq-same a b)
+
+-- rows with their tokens
+unfoldable pub kinds : {V : Type 0} → (V → Kind) → List (List ℕ × V) → List (List ℕ × Kind)
+kinds kind_of rows = map (λ row. (row.0, kind_of row.1)) rows
+
+pub find-kinds : {V : Type 0} (kind_of : V → Kind) (rows : List (List ℕ × V)) (b : List ℕ) → option_map kind_of (lookup (λ key. bytes_eq key b) rows) ≡ find (kinds kind_of rows) b
+unfolding kinds
+find-kinds kind_of [] b = refl
+find-kinds kind_of (row ∷ rows) b =
+    elim (cases_Bool (same row.0 b)) [
+      | inl hit ↦ rw (bytes_eq-same row.0 b, hit) refl
+      | inr miss ↦ rw (bytes_eq-same row.0 b, miss) (find-kinds kind_of rows b)
+    ]

@@ -1,20 +1,8 @@
 -- The code's table of keywords.
-use Rattle.std.specs.Prelude.{ℕ, if◌then◌else◌, List, [], ◌∷◌, map, Option, Some, None}
-use Rattle.std.specs.Borrow.{Bor}
 use Rattle.kt_tree.specs.declared.token.Kind.{Kind}
 use Rattle.kt_tree.specs.declared.token.Kind.TheVariants.{As, Break, Class, Continue, Do, Else, False, For, Fun, If, In, Interface, Is, Null, Object, Package, Return, Super, This, Throw, True, Try, Typealias, Typeof, Val, Var, When, While}
-use Rattle.kt_tree.specs.Lexemes.{same}
 use Rattle.kt_lex.specs.declared.keywords.Keyword.{Keyword}
 use Rattle.kt_lex.specs.declared.keywords.Keyword.TheVariants as variants
-
--- the keyword of the first row with the text
-abbrev pub find : List (List ℕ × Keyword) → List ℕ → Option Keyword
-find [] text = None
-find (row ∷ rows) text = if same row.0 text then Some row.1 else find rows text
-
--- rows without where their texts lie in memory
-abbrev pub plain : List (Bor (List ℕ) × Keyword) → List (List ℕ × Keyword)
-plain rows = map (λ row. (row.0.now, row.1)) rows
 
 -- the token that a keyword is
 abbrev pub kind_of : Keyword → Kind

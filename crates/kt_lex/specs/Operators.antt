@@ -1,20 +1,8 @@
 -- The code's table of operators.
-use Rattle.std.specs.Prelude.{ℕ, if◌then◌else◌, List, [], ◌∷◌, map, Option, Some, None}
-use Rattle.std.specs.Borrow.{Bor}
 use Rattle.kt_tree.specs.declared.token.Kind.{Kind}
 use Rattle.kt_tree.specs.declared.token.Kind.TheVariants.{Not, NotNull, NotEqual, NotIn, NotIs, Open, Percent, PercentAssign, And, OpenRound, CloseRound, Star, StarAssign, Plus, PlusPlus, PlusAssign, Comma, Minus, MinusMinus, MinusAssign, Arrow, Dot, Range, Slash, SlashAssign, Colon, ColonColon, Semicolon, Less, LessEqual, Assign, Equal, Greater, GreaterEqual, Question, SafeDot, Elvis, At, OpenSquare, CloseSquare, OpenBrace, Or, CloseBrace}
-use Rattle.kt_tree.specs.Lexemes.{same}
 use Rattle.kt_lex.specs.declared.operators.Operator.{Operator}
 use Rattle.kt_lex.specs.declared.operators.Operator.TheVariants as variants
-
--- the operator of the first row with the text
-abbrev pub find : List (List ℕ × Operator) → List ℕ → Option Operator
-find [] text = None
-find (row ∷ rows) text = if same row.0 text then Some row.1 else find rows text
-
--- rows without where their texts lie in memory
-abbrev pub plain : List (Bor (List ℕ) × Operator) → List (List ℕ × Operator)
-plain rows = map (λ row. (row.0.now, row.1)) rows
 
 -- the token that an operator is
 abbrev pub kind_of : Operator → Kind

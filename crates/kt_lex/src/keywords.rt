@@ -4,6 +4,7 @@ ghost use Rattle.std.specs.Str.{chars};
 ghost use Rattle.kt_tree.specs.Lexemes as spec;
 ghost use Rattle.kt_lex.specs.Keywords as table;
 
+use kt_table::Table;
 use kt_tree::Kind;
 
 /// A hard keyword.
@@ -113,16 +114,7 @@ impl Keyword {
 pub fn keyword_of(word: &str) -> Option<Keyword>
     ensures { option_map table.kind_of result ≡ spec.keyword_of (chars word.now) }
 {
-    find(&KEYWORDS, word)
-}
-
-fn find(rows: &[(&str, Keyword)], word: &str) -> Option<Keyword>
-    ensures { result ≡ table.find (table.plain rows.now) word.now }
-{
-    for (text, keyword) in rows {
-        if *text == word {
-            return Some(*keyword);
-        }
-    }
-    None
+    Table::<&str, Keyword, 28>::new(&KEYWORDS)
+        .find(&word)
+        .copied()
 }

@@ -5,6 +5,7 @@ ghost use Rattle.kt_tree.specs.Lexemes as spec;
 ghost use Rattle.kt_tree.specs.Words.{is_word_operator};
 ghost use Rattle.kt_lex.specs.Operators as table;
 
+use kt_table::Table;
 use kt_tree::Kind;
 
 /// An operator, or the quote that opens a string. `as?` is read as a word.
@@ -166,16 +167,7 @@ impl Operator {
 pub fn operator_of(text: &str) -> Option<Operator>
     ensures { option_map table.kind_of result ≡ spec.operator_of (chars text.now) }
 {
-    find(&OPERATORS, text)
-}
-
-fn find(rows: &[(&str, Operator)], text: &str) -> Option<Operator>
-    ensures { result ≡ table.find (table.plain rows.now) text.now }
-{
-    for (front, operator) in rows {
-        if *front == text {
-            return Some(*operator);
-        }
-    }
-    None
+    Table::<&str, Operator, 43>::new(&OPERATORS)
+        .find(&text)
+        .copied()
 }
