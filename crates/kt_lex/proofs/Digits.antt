@@ -1,6 +1,6 @@
 -- The digits of an integer, one at a time.
-use Rattle.std.proofs.Common.{◌≡◌, ℕ, zero, suc, ◌+◌, ◌-◌, ◌*◌, ◌<◌, ◌≤◌, Bool, true, false, not, cond, ◌&&◌, ◌||◌, ◌==◌, nat_lt, List, [], ◌∷◌, Option, Some, None, refl, sym, ap, ◌∙◌, ◌⊎◌, inl, inr, arith, le_refl, subst}
-use Rattle.std.proofs.lemmas.Bool.{cases_Bool, and_parts, and_from, and_left, and_right, eqb-true, ltb-true, ltb-false, le-ltb, lt-ltb, true≢false, false≢true}
+use Rattle.std.proofs.Common.{◌≡◌, ℕ, ◌+◌, ◌*◌, ◌<◌, ◌≤◌, Bool, true, false, not, ◌&&◌, ◌==◌, nat_lt, List, [], ◌∷◌, Some, None, refl, ap, ◌∙◌, ◌⊎◌, inl, inr, arith, le_refl, subst}
+use Rattle.std.proofs.lemmas.Bool.{cases_Bool, and_right, eqb-true, ltb-true, ltb-false, le-ltb, lt-ltb}
 use Rattle.std.proofs.Math.Nat.{mul-le-mul_left}
 use Rattle.std.specs.Char.{digit_value}
 use Rattle.kt_tree.specs.Text.{first}

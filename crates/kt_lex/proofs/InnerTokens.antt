@@ -1,9 +1,9 @@
 -- No token but the last is the end of the file.
-use Rattle.std.proofs.Common.{◌≡◌, ℕ, ◌+◌, Bool, true, false, not, ◌&&◌, ◌||◌, ◌==◌, if◌then◌else◌, List, [], ◌∷◌, ◌++◌, take, drop, codes, Option, Some, None, option_map, refl, sym, ap, ◌∙◌, inl, inr, subst}
+use Rattle.std.proofs.Common.{◌≡◌, ℕ, Bool, true, false, not, ◌&&◌, ◌==◌, if◌then◌else◌, List, [], ◌∷◌, ◌++◌, take, drop, codes, Option, Some, None, option_map, refl, sym, inl, inr, subst}
 use Rattle.std.proofs.lemmas.Bool.{cases_Bool, and_parts, and_from}
 use Rattle.std.specs.List.{list_all}
 use Rattle.kt_tree.specs.declared.token.Kind.{Kind}
-use Rattle.kt_tree.specs.declared.token.Kind.TheVariants.{This, ThisPart, ExprPart, Close, AsSafe}
+use Rattle.kt_tree.specs.declared.token.Kind.TheVariants.{This, ExprPart, Close, AsSafe}
 use Rattle.kt_tree.specs.declared.token.Token.{Token}
 use Rattle.kt_tree.specs.Brackets.{Bracket, in_string}
 use Rattle.kt_tree.specs.Characters.{begins_name, continues_name, is_digit, is_space, is_line_end}
@@ -17,7 +17,7 @@ use Rattle.kt_tree.specs.Text.{first, after_first}
 use Rattle.kt_tree.specs.TokenLists.{is_end, ends_once}
 use Rattle.kt_tree.specs.Words.{is_word, is_label, is_word_operator, lexeme, word_lexeme, operator_lexeme, operator_before, integer_lexeme, keyword_or_name}
 use Rattle.kt_lex.specs.Faults.{is_inner}
-use Rattle.kt_lex.proofs.Longest.{TakesLongest, token_at-is}
+use Rattle.kt_lex.proofs.Longest.{token_at-is}
 
 abbrev pub is_last : Lexeme → Bool
 is_last (fixed kind) = is_end kind

@@ -1,17 +1,17 @@
 -- Which fronts of a text that begins with a digit are integers.
-use Rattle.std.proofs.Common.{◌≡◌, ℕ, zero, suc, ◌+◌, ◌-◌, ◌*◌, ◌<◌, ◌≤◌, Bool, true, false, not, cond, ◌&&◌, ◌||◌, ◌==◌, nat_lt, nat_le, List, [], ◌∷◌, ◌++◌, length, take, drop, Option, Some, None, option_map, option_and_then, refl, sym, ap, ◌∙◌, ◌⊎◌, inl, inr, arith, le_refl, subst, lit<}
-use Rattle.std.proofs.lemmas.Bool.{cases_lt, cases_order, cases_eq, cases_Bool, and_parts, and_from, or_cases, or_left, or_right, eqb-true, true≢false, false≢true, agree_below_at, ltb-true, le-ltb, lt-ltb, leb-true}
+use Rattle.std.proofs.Common.{◌≡◌, ℕ, zero, suc, ◌+◌, ◌<◌, ◌≤◌, Bool, true, false, not, cond, ◌&&◌, ◌||◌, ◌==◌, nat_lt, nat_le, List, [], ◌∷◌, length, take, drop, Option, Some, None, option_map, refl, sym, ap, ◌∙◌, inl, inr, arith, lit<}
+use Rattle.std.proofs.lemmas.Bool.{cases_lt, cases_order, cases_eq, cases_Bool, and_parts, and_from, or_cases, or_left, or_right, eqb-true, true≢false, false≢true, agree_below_at, ltb-true, lt-ltb, leb-true}
 use Rattle.std.proofs.lemmas.Bool.Decides.{nat_tests}
 use Rattle.std.specs.List.{list_all, prefix_len}
 use Rattle.std.specs.Char.{digit_value, is_ascii_alphanumeric}
 use Rattle.kt_tree.specs.Characters.{begins_name, continues_name, is_digit}
 use Rattle.kt_tree.specs.Integers.{integer, digits, integer_limit, bars_integer, is_digit_of, end_in_digit, are_digits, value_after}
-use Rattle.kt_tree.specs.Lexemes.{Lexeme, number}
+use Rattle.kt_tree.specs.Lexemes.{number}
 use Rattle.kt_tree.specs.Longest.{longest, token_at}
-use Rattle.kt_tree.specs.Text.{first, run, after_run}
+use Rattle.kt_tree.specs.Text.{first}
 use Rattle.kt_tree.specs.Words.{lexeme, integer_lexeme}
 use Rattle.kt_lex.specs.Steps.{integer_at}
-use Rattle.kt_lex.proofs.Fronts.{list_all-run, list_all-past, prefix_len-le, inside_run}
+use Rattle.kt_lex.proofs.Fronts.{list_all-past, prefix_len-le, inside_run}
 use Rattle.kt_lex.proofs.Longest.{TokenAt, longest-some, longest-none}
 use Rattle.kt_lex.proofs.NameCharacters.{continues_name-ascii}
 

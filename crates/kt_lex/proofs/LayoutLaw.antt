@@ -1,5 +1,5 @@
 -- The tokens of a text lie in it one after another.
-use Rattle.std.proofs.Common.{◌≡◌, ℕ, zero, suc, ◌+◌, ◌-◌, ◌<◌, ◌≤◌, Bool, true, false, ◌&&◌, ◌||◌, ◌⊎◌, List, [], ◌∷◌, ◌++◌, length, drop, Option, Some, None, refl, sym, ap, ◌∙◌, inl, inr, arith, le_refl, length-append, subst}
+use Rattle.std.proofs.Common.{◌≡◌, ℕ, zero, suc, ◌+◌, ◌<◌, ◌≤◌, Bool, true, false, ◌&&◌, ◌||◌, ◌⊎◌, List, [], ◌∷◌, ◌++◌, length, drop, Option, Some, None, refl, sym, ap, ◌∙◌, inl, inr, arith, le_refl, length-append, subst}
 use Rattle.std.proofs.lemmas.Bool.{true≢false}
 use Rattle.std.proofs.lemmas.List.{take-append-drop}
 use Rattle.std.proofs.lemmas.Str.{encodes-append}
@@ -8,13 +8,13 @@ use Rattle.std.specs.List.{prefix_len}
 use Rattle.kt_tree.specs.declared.token.Kind.TheVariants.{End}
 use Rattle.kt_tree.specs.Brackets.{Bracket, brackets_after, counts_lines, in_string, open_quote}
 use Rattle.kt_tree.specs.Layout.{Blank, here, space, line_end, line_comment, comment, Stands, StandsLast, Lies, last, more, Rise}
-use Rattle.kt_tree.specs.Lexemes.{Lexeme, fixed}
-use Rattle.kt_tree.specs.Moves.{Move, skip, take, stop, unclosed, bad, next_move, comment_end, is_in_line}
+use Rattle.kt_tree.specs.Lexemes.{fixed}
+use Rattle.kt_tree.specs.Moves.{Move, skip, take, stop, unclosed, bad, next_move, is_in_line}
 use Rattle.std.proofs.Common.{take as takes}
-use Rattle.kt_tree.specs.Text.{place, width, after_first, after_run, without_mark}
+use Rattle.kt_tree.specs.Text.{place, width, after_first, without_mark}
 use Rattle.kt_tree.specs.Tokens.{Lexed, Outcome, unfinished, tokens, bad_at, with_token, lexed, unclosed_or, bad_here, step, steps, outcome, AreTokens, IsBadPlace}
 use Rattle.kt_lex.proofs.MoveFacts.{Blank-trans, MoveIs, next_move-is}
-use Rattle.kt_lex.proofs.Rests.{IsRest, comment_end-leaves, MoveLeaves, next_move-leaves, rest-shorter}
+use Rattle.kt_lex.proofs.Rests.{comment_end-leaves, MoveLeaves, next_move-leaves, rest-shorter}
 use Rattle.kt_lex.proofs.TokenSteps.{Ended}
 
 -- with_token gives tokens only from tokens

@@ -1,5 +1,5 @@
 -- What the scanner has found so far.
-use Rattle.std.proofs.Common.{◌≡◌, ℕ, ◌+◌, ◌-◌, ◌<◌, ◌≤◌, Bool, true, false, ◌&&◌, ◌||◌, List, [], ◌∷◌, ◌++◌, length, Option, Some, None, refl, sym, ap, ◌∙◌, arith, length-append, subst}
+use Rattle.std.proofs.Common.{◌≡◌, ℕ, ◌+◌, ◌≤◌, Bool, true, false, ◌&&◌, ◌||◌, List, [], ◌∷◌, ◌++◌, length, None, refl, sym, ap, ◌∙◌, arith, length-append, subst}
 use Rattle.std.specs.List.{list_all}
 use Rattle.kt_tree.specs.declared.token.Kind.TheVariants.{End}
 use Rattle.kt_tree.specs.declared.token.Token.{Token}
@@ -8,10 +8,10 @@ use Rattle.kt_tree.specs.declared.tokens.Tokens.{Tokens}
 use Rattle.kt_tree.specs.Brackets.{Bracket, brackets_after, counts_lines, open_quote}
 use Rattle.kt_tree.specs.BuiltIn.{built_in}
 use Rattle.kt_tree.specs.Lexemes.{Lexeme, fixed}
-use Rattle.kt_tree.specs.Moves.{Move, skip, take, stop, unclosed, bad, next_move}
-use Rattle.kt_tree.specs.Numbering.{with_name, names_after, kind_of, token_of, numbered, AreNumbered, HasTokens}
+use Rattle.kt_tree.specs.Moves.{skip, take, stop, next_move}
+use Rattle.kt_tree.specs.Numbering.{with_name, names_after, kind_of, token_of, numbered, HasTokens}
 use Rattle.kt_tree.specs.Text.{place, without_mark}
-use Rattle.kt_tree.specs.Tokens.{Lexed, lexed, steps, outcome, AreTokens}
+use Rattle.kt_tree.specs.Tokens.{Lexed, lexed, outcome}
 use Rattle.kt_lex.specs.Faults.{is_inner}
 use Rattle.kt_lex.proofs.InnerTokens.{MoveInner, next_move-inner, inner-push}
 use Rattle.kt_lex.proofs.Rests.{MoveLeaves, next_move-leaves, rest-shorter, without_mark-shorter}
@@ -82,7 +82,7 @@ lexed-take whole list more names table stack fresh flag rest next l span e h sta
       out = h.out ++ t ∷ [];
       so_far = subst (λ s. SoFar whole (h.out ++ t ∷ []) s false next) brackets (after_take whole h.out stack fresh rest next l e h.so_far);
       tokens = pushed ∙ ap (λ v. list ++ v ∷ []) token ∙ ap (λ n. list ++ token_of n t ∷ []) h.table ∙ ap (λ us. us ++ token_of (names_after built_in h.out) t ∷ []) h.tokens
-        ∙ sym (numbered-push built_in h.out t);
+          ∙ sym (numbered-push built_in h.out t);
       table = named ∙ ap (λ n. with_name n l) h.table ∙ sym (names_after-push built_in h.out t);
       few = omega (arith, h.few, shorter, longer);
       few_names = omega (arith, h.few_names, len, longer);
@@ -101,7 +101,7 @@ lexed-stop whole list names stack fresh flag rest span t e none h start end coun
       are = at_stop whole h.out stack fresh rest e none h.so_far;
       numbered = record {
         list = pushed ∙ ap (λ v. list ++ v ∷ []) token ∙ ap (λ n. list ++ token_of n last ∷ []) h.table ∙ ap (λ us. us ++ token_of (names_after built_in h.out) last ∷ []) h.tokens
-          ∙ sym (numbered-push built_in h.out last);
+            ∙ sym (numbered-push built_in h.out last);
         names = named ∙ h.table ∙ sym (names_after-push built_in h.out last);
       };
     }

@@ -1,11 +1,10 @@
 -- The classes of characters at ASCII.
-use Rattle.std.proofs.Common.{◌≡◌, ℕ, ◌<◌, ◌≤◌, Bool, true, false, not, ◌||◌, ◌==◌, refl, subst, sym, ap, ◌∙◌, inl, inr, arith}
+use Rattle.std.proofs.Common.{◌≡◌, ℕ, ◌<◌, true, ◌||◌, ◌==◌, refl, ap, inl, inr}
 use Rattle.std.proofs.lemmas.Bool.{or_cases, or_left, or_right}
 use Rattle.ucd_category.specs.declared.GeneralCategory.TheVariants.{DecimalNumber}
 use Rattle.std.specs.Bool.{beq}
 use Rattle.std.specs.Char.{is_ascii_alphabetic, is_ascii_alphanumeric}
-use Rattle.unicode.proofs.Stepped.{map_stepped}
-use Rattle.unicode.proofs.Facts.{Stepped-everywhere, Stepped-below, same_from_beq}
+use Rattle.unicode.proofs.Facts.{Stepped-below, same_from_beq}
 use Rattle.unicode.proofs.GeneralCategoryLemmas.{general_category_stepped}
 use Rattle.unicode.proofs.TableComputing.{tables}
 use Rattle.unicode.specs.GeneralCategory.{general_category}
@@ -29,7 +28,6 @@ begins_name-ascii c h = ap (λ b. (c == 95) || b) (is_letter-ascii c h)
 pub continues_name-ascii : (c : ℕ) → c < 128 → continues_name c ≡ ((c == 95) || is_ascii_alphanumeric c)
 unfolding continues_name
 continues_name-ascii c h = ap (λ b. (c == 95) || b) (is_letter_or_digit-ascii c h)
-
 
 pub ruleset ascii = (is_letter-ascii, is_letter_or_digit-ascii)
 

@@ -1,5 +1,5 @@
 -- Which fronts of a text are operators.
-use Rattle.std.proofs.Common.{◌≡◌, ℕ, zero, suc, ◌+◌, ◌-◌, ◌<◌, ◌≤◌, Bool, true, false, cond, ◌&&◌, nat_le, List, [], ◌∷◌, length, take, drop, Option, Some, None, option_map, option_and_then, refl, sym, ap, ◌∙◌, arith, inl, inr}
+use Rattle.std.proofs.Common.{◌≡◌, ℕ, zero, suc, ◌+◌, ◌<◌, ◌≤◌, true, false, ◌&&◌, nat_le, List, [], ◌∷◌, length, take, drop, Option, Some, None, option_map, refl, ap, ◌∙◌, arith, inl, inr}
 use Rattle.std.proofs.lemmas.Bool.{cases_Bool, and_parts, leb-true}
 use Rattle.std.proofs.lemmas.List.{length-take-le}
 use Rattle.std.specs.List.{list_all}
@@ -8,8 +8,8 @@ use Rattle.kt_tree.specs.Characters.{begins_name, continues_name, is_digit}
 use Rattle.kt_tree.specs.Lexemes.{Lexeme, fixed, same, find, operators, operator_of}
 use Rattle.kt_tree.specs.Longest.{or_shorter, longest_from, longest, token_at}
 use Rattle.kt_tree.specs.Text.{first}
-use Rattle.kt_tree.specs.Words.{lexeme, operator_before, operator_lexeme, is_word_operator}
-use Rattle.kt_lex.specs.Steps.{operator_at, operator_with, operator_of_front, or_else}
+use Rattle.kt_tree.specs.Words.{lexeme, operator_before, is_word_operator}
+use Rattle.kt_lex.specs.Steps.{operator_at, operator_with, or_else}
 use Rattle.kt_lex.proofs.Longest.{TokenAt, longest_from-none}
 use Rattle.kt_lex.proofs.SameText.{same-true}
 
@@ -75,4 +75,4 @@ token_at-operator (c ∷ d ∷ e ∷ cs) b n =
     ap (λ m. longest_from lexeme m (c ∷ d ∷ e ∷ cs)) len ∙ longest_from-none lexeme 3 (length cs) (c ∷ d ∷ e ∷ cs) (λ m lo hi. past_three c d e cs m b n lo hi) in
     ap (TokenAt (c ∷ d ∷ e ∷ cs)) three
     ∙ rw (b, n) (shape text cs 3 (operator_of (c ∷ d ∷ e ∷ [])) _ _ refl
-        (shape text (e ∷ cs) 2 (operator_of (c ∷ d ∷ [])) _ _ refl (last_shape text (d ∷ e ∷ cs) 1 (operator_of (c ∷ [])) refl)))
+    (shape text (e ∷ cs) 2 (operator_of (c ∷ d ∷ [])) _ _ refl (last_shape text (d ∷ e ∷ cs) 1 (operator_of (c ∷ [])) refl)))

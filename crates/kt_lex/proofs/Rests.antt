@@ -1,5 +1,5 @@
 -- What follows a move is shorter.
-use Rattle.std.proofs.Common.{◌≡◌, ℕ, zero, suc, ◌+◌, ◌-◌, ◌<◌, ◌≤◌, Bool, true, false, ◌&&◌, ◌||◌, ◌==◌, List, [], ◌∷◌, ◌++◌, length, take, drop, Option, Some, None, option_map, refl, sym, ap, ◌∙◌, inl, inr, arith, le_refl, append_assoc, length-append, subst}
+use Rattle.std.proofs.Common.{◌≡◌, ℕ, zero, suc, ◌<◌, ◌≤◌, ◌&&◌, ◌==◌, List, [], ◌∷◌, ◌++◌, length, take, drop, Option, Some, None, option_map, refl, sym, ap, ◌∙◌, inl, inr, arith, le_refl, length-append, subst}
 use Rattle.std.proofs.lemmas.Bool.{cases_Bool}
 use Rattle.std.proofs.lemmas.List.{take-append-drop, length-take-le}
 use Rattle.std.proofs.lemmas.Str.{encodes-chars, encodes-append, length-le-encodes}
@@ -12,7 +12,7 @@ use Rattle.kt_tree.specs.Lexemes.{Lexeme}
 use Rattle.kt_tree.specs.Longest.{or_shorter, longest_from, longest, token_at}
 use Rattle.kt_tree.specs.Moves.{Move, skip, take as takes, stop, unclosed, bad, front_move, string_move, next_move, comment_end, is_in_line, skip_comment, take_or}
 use Rattle.kt_tree.specs.Strings.{string_lexeme}
-use Rattle.kt_tree.specs.Text.{first, after_first, after_run, width, place, without_mark}
+use Rattle.kt_tree.specs.Text.{first, after_first, width, without_mark}
 use Rattle.kt_tree.specs.Words.{lexeme}
 
 -- the second text is the first without some characters at the front

@@ -1,5 +1,5 @@
 -- Texts of ASCII as bytes and as characters.
-use Rattle.std.proofs.Common.{◌≡◌, ℕ, Bool, true, false, cond, ◌&&◌, ◌==◌, List, [], ◌∷◌, Option, Some, None, refl, sym, ap, ◌∙◌, inl, inr, subst, ◌<◌, nat_lt}
+use Rattle.std.proofs.Common.{◌≡◌, ℕ, Bool, true, ◌&&◌, ◌==◌, List, [], ◌∷◌, refl, sym, ap, ◌∙◌, inl, inr, nat_lt}
 use Rattle.std.proofs.Common.{bytes_eq, map, option_map}
 use Rattle.std.specs.Map.{lookup}
 use Rattle.std.specs.List.{list_all}

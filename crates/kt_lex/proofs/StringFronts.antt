@@ -1,16 +1,16 @@
 -- Which fronts of a text within a string are tokens.
-use Rattle.std.proofs.Common.{◌≡◌, ℕ, zero, suc, ◌+◌, ◌-◌, ◌<◌, ◌≤◌, Bool, true, false, not, ◌&&◌, ◌||◌, ◌==◌, codes, List, [], ◌∷◌, ◌++◌, length, take, drop, Option, Some, None, option_map, refl, sym, ap, ap₂, ◌∙◌, inl, inr, arith, lit<, length-append, subst}
+use Rattle.std.proofs.Common.{◌≡◌, ℕ, zero, suc, ◌<◌, ◌≤◌, true, false, not, ◌&&◌, ◌==◌, codes, List, [], ◌∷◌, ◌++◌, length, take, drop, Option, Some, None, option_map, refl, sym, ap, ap₂, ◌∙◌, inl, inr, arith, lit<, length-append, subst}
 use Rattle.std.proofs.lemmas.Bool.{cases_Bool, cases_order, and_parts, and_right, or_right, cases_eq, eqb-true, true≢false}
 use Rattle.std.proofs.lemmas.List.{take-append-drop, take_at, drop_at}
 use Rattle.std.specs.List.{prefix_len}
 use Rattle.kt_tree.specs.declared.token.Kind.{Kind}
-use Rattle.kt_tree.specs.declared.token.Kind.TheVariants.{This, ThisPart, ExprPart, Close}
+use Rattle.kt_tree.specs.declared.token.Kind.TheVariants.{This, ExprPart, Close}
 use Rattle.kt_tree.specs.Characters.{begins_name, continues_name, is_line_end}
-use Rattle.kt_tree.specs.Lexemes.{Lexeme, fixed, piece, name_part, same, keyword_of}
-use Rattle.kt_tree.specs.Longest.{longest, token_at}
+use Rattle.kt_tree.specs.Lexemes.{Lexeme, fixed, piece, same, keyword_of}
+use Rattle.kt_tree.specs.Longest.{token_at}
 use Rattle.kt_tree.specs.Moves.{Move, take as takes, bad, take_or, string_move}
-use Rattle.kt_tree.specs.Strings.{begins_part, is_plain, text_value, part_lexeme, word_part, string_lexeme}
-use Rattle.kt_tree.specs.Text.{first, after_first, run, after_run}
+use Rattle.kt_tree.specs.Strings.{begins_part, text_value, part_lexeme, word_part, string_lexeme}
+use Rattle.kt_tree.specs.Text.{first, run, after_run}
 use Rattle.kt_tree.specs.Words.{is_word}
 use Rattle.kt_lex.specs.Units.{unit, IsPieceMove, word_move, part_move, AreUnits}
 use Rattle.kt_lex.proofs.Fronts.{prefix_len-le, after_run-stops, inside_run, is_word-past, is_word-begins}
@@ -53,13 +53,13 @@ token_at-piece c cs v rest q other p some =
     let here : string_lexeme (take (length p.front) (c ∷ cs)) (drop (length p.front) (c ∷ cs)) ≡ Some (piece v) =
     piece_front c cs (length p.front) q other some ∙ ap (option_map piece) (ap₂ text_value front back ∙ p.value) in
     ap (TokenAt (c ∷ cs)) (longest-some string_lexeme (c ∷ cs) (length p.front) (piece v) some within here
-        (λ m lo hi. piece_front c cs m q other (omega arith) ∙ ap (option_map piece) (p.longer m lo hi)))
+    (λ m lo hi. piece_front c cs m q other (omega arith) ∙ ap (option_map piece) (p.longer m lo hi)))
     ∙ ap (λ t. Some (piece v, t)) back
 
 pub token_at-bad : (c : ℕ) (cs : List ℕ) → (c == 34) ≡ false → (c == 36 && begins_part cs) ≡ false → unit (c ∷ cs) ≡ None → token_at string_lexeme (c ∷ cs) ≡ None
 token_at-bad c cs q other stop =
     ap (TokenAt (c ∷ cs)) (longest-none string_lexeme (c ∷ cs)
-        (λ m lo hi. piece_front c cs m q other lo ∙ ap (option_map piece) (no_text (c ∷ cs) m stop lo hi)))
+    (λ m lo hi. piece_front c cs m q other lo ∙ ap (option_map piece) (no_text (c ∷ cs) m stop lo hi)))
 
 -- parts
 
@@ -80,7 +80,7 @@ longer_expr (d ∷ cs) (suc (suc (suc m))) h lo hi =
 token_at-expr : (cs : List ℕ) → token_at string_lexeme (36 ∷ 123 ∷ cs) ≡ Some (fixed ExprPart, cs)
 token_at-expr cs =
     ap (TokenAt (36 ∷ 123 ∷ cs)) (longest-some string_lexeme (36 ∷ 123 ∷ cs) 2 (fixed ExprPart) (omega arith) (omega arith) refl
-        (λ m lo hi. longer_expr cs m refl lo hi))
+    (λ m lo hi. longer_expr cs m refl lo hi))
 
 -- no front of what begins as an identifier is `{`
 no_brace : (cs : List ℕ) (m : ℕ) → begins_name (first cs) ≡ true → same (take m cs) (codes "{") ≡ false
@@ -128,16 +128,16 @@ part_cases : (cs : List ℕ) (o : Option Lexeme) → begins_name (first cs) ≡ 
 part_cases cs None h e =
     let k = prefix_len continues_name cs in
     ap (TokenAt (36 ∷ cs)) (longest-none string_lexeme (36 ∷ cs)
-        (λ m lo hi. elim (cases_eq m (suc k)) [
-          | inl here ↦ ap (λ n. string_lexeme (take n (36 ∷ cs)) (drop n (36 ∷ cs))) here ∙ part_front cs k (begins-part cs h) ∙ whole_part cs h ∙ e
-          | inr ne ↦ part_fronts cs m h lo hi ne
-        ]))
+    (λ m lo hi. elim (cases_eq m (suc k)) [
+      | inl here ↦ ap (λ n. string_lexeme (take n (36 ∷ cs)) (drop n (36 ∷ cs))) here ∙ part_front cs k (begins-part cs h) ∙ whole_part cs h ∙ e
+      | inr ne ↦ part_fronts cs m h lo hi ne
+    ]))
 part_cases cs (Some l) h e =
     let k = prefix_len continues_name cs in
     let bound = prefix_len-le continues_name cs in
     ap (TokenAt (36 ∷ cs)) (longest-some string_lexeme (36 ∷ cs) (suc (prefix_len continues_name cs)) l (omega arith) (omega arith)
-        (part_front cs k (begins-part cs h) ∙ whole_part cs h ∙ e)
-        (λ m lo hi. part_fronts cs m h (omega arith) hi (λ same_m. omega arith)))
+    (part_front cs k (begins-part cs h) ∙ whole_part cs h ∙ e)
+    (λ m lo hi. part_fronts cs m h (omega arith) hi (λ same_m. omega arith)))
 
 word_move-part : (o : Option Kind) (word rest : List ℕ) → take_or bad (option_map (λ l. (l, rest)) (word_part o word)) ≡ word_move o word rest
 word_move-part None word rest = refl
@@ -157,7 +157,7 @@ token_at-part c cs dollar h =
       | inr miss ↦
           let begins : begins_name (first cs) ≡ true = rw miss at h in
           rw miss (ap (take_or bad) (part_cases cs (word_part (keyword_of (run continues_name cs)) (run continues_name cs)) begins refl)
-              ∙ word_move-part (keyword_of (run continues_name cs)) (run continues_name cs) (after_run continues_name cs))
+          ∙ word_move-part (keyword_of (run continues_name cs)) (run continues_name cs) (after_run continues_name cs))
     ]
 
 -- moves

@@ -1,10 +1,10 @@
 -- The units of a string's text, and what its fronts stand for.
-use Rattle.std.proofs.Common.{◌≡◌, ℕ, zero, suc, ◌+◌, ◌-◌, ◌<◌, ◌≤◌, Bool, true, false, ◌&&◌, ◌||◌, ◌==◌, List, [], ◌∷◌, ◌++◌, length, take, drop, Option, Some, None, refl, sym, ap, ap₂, ◌∙◌, inl, inr, arith, append_assoc, length-append, subst}
+use Rattle.std.proofs.Common.{◌≡◌, ℕ, zero, suc, ◌+◌, ◌-◌, ◌<◌, ◌≤◌, true, false, ◌==◌, List, [], ◌∷◌, ◌++◌, length, take, drop, Option, Some, None, refl, sym, ap, ap₂, ◌∙◌, inl, inr, arith, append_assoc, length-append}
 use Rattle.std.proofs.lemmas.Bool.{cases_Bool}
-use Rattle.std.proofs.lemmas.List.{take-append-drop, take_at, drop_at}
+use Rattle.std.proofs.lemmas.List.{take-append-drop}
 use Rattle.std.proofs.Math.Seq.{take-append-add, drop-append-add}
 use Rattle.kt_tree.specs.Strings.{simple_escape, code_unit, is_code_unit, is_plain, cons_some, text_value, escape_value, unicode_value}
-use Rattle.kt_lex.specs.Units.{code_unit_of, with_rest, unicode, escape, unit, AreUnits, none, more}
+use Rattle.kt_lex.specs.Units.{with_rest, unicode, escape, unit, AreUnits, none, more}
 
 -- one more unit at the end
 pub AreUnits-push : {a b d v : List ℕ} {c : ℕ} → AreUnits a v b → unit b ≡ Some (c, d) → AreUnits a (v ++ c ∷ []) d

@@ -1,5 +1,5 @@
 -- Steps over a text.
-use Rattle.std.proofs.Common.{◌≡◌, ℕ, zero, suc, ◌+◌, ◌-◌, ◌<◌, ◌≤◌, Bool, true, false, ◌&&◌, ◌||◌, List, [], ◌∷◌, ◌++◌, length, Option, Some, None, refl, sym, ap, ◌∙◌, arith, append_assoc, append-nil, subst}
+use Rattle.std.proofs.Common.{◌≡◌, ℕ, zero, suc, ◌+◌, Bool, false, ◌&&◌, ◌||◌, List, [], ◌∷◌, ◌++◌, Some, None, refl, sym, ap, ◌∙◌, arith, append_assoc, subst}
 use Rattle.kt_tree.specs.declared.token.Kind.TheVariants.{End}
 use Rattle.kt_tree.specs.Brackets.{Bracket, brackets_after, counts_lines, open_quote}
 use Rattle.kt_tree.specs.Lexemes.{Lexeme, fixed}
@@ -36,10 +36,12 @@ steps-more n whole stack fresh rest m e = rw (sym e) refl
 next_so_far : (whole : List ℕ) (out : List Lexed) (stack : List Bracket) (fresh : Bool) (rest : List ℕ) (m : Move) → m ≡ next_move stack rest → SoFar whole out stack fresh rest
     → (k : ℕ) × ((n : ℕ) → outcome (k + n) whole ≡ in_front out (step whole (λ o f r. steps n whole o f r) stack fresh rest m))
 next_so_far whole out stack fresh rest m e h =
-    let (k, so_far) = h in
-    (k + 1, λ n.
-        let count : (k + 1) + n ≡ k + suc n = omega arith in
-        ap (λ j. outcome j whole) count ∙ so_far (suc n) ∙ ap (in_front out) (steps-more n whole stack fresh rest m e))
+    let (k, so_far) = h in (
+      k + 1,
+      λ n.
+          let count : (k + 1) + n ≡ k + suc n = omega arith in
+          ap (λ j. outcome j whole) count ∙ so_far (suc n) ∙ ap (in_front out) (steps-more n whole stack fresh rest m e),
+    )
 
 pub after_skip : (whole : List ℕ) (out : List Lexed) (stack : List Bracket) (fresh line : Bool) (rest next : List ℕ) → skip line next ≡ next_move stack rest
     → SoFar whole out stack fresh rest → SoFar whole out stack (fresh || line) next

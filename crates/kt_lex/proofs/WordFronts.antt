@@ -1,15 +1,14 @@
 -- Which fronts of a text that begins as an identifier are tokens.
-use Rattle.std.proofs.Common.{◌≡◌, ℕ, zero, suc, ◌+◌, ◌-◌, ◌<◌, ◌≤◌, Bool, true, false, not, ◌&&◌, ◌==◌, codes, List, [], ◌∷◌, ◌++◌, length, take, drop, Option, Some, None, is_some, option_and_then, refl, sym, ap, ap₂, ◌∙◌, inl, inr, arith, lit<, append_assoc, length-append}
+use Rattle.std.proofs.Common.{◌≡◌, ℕ, zero, suc, ◌+◌, ◌<◌, ◌≤◌, true, false, not, ◌&&◌, ◌==◌, codes, List, [], ◌∷◌, ◌++◌, length, take, drop, Option, Some, None, is_some, option_and_then, refl, sym, ap, ap₂, ◌∙◌, inl, inr, arith, lit<, append_assoc, length-append}
 use Rattle.std.proofs.lemmas.Bool.{cases_Bool, cases_order, and_left, and_right, eqb-true, eq-eqb, true≢false}
 use Rattle.std.proofs.lemmas.List.{take-append-drop, take_at, drop_at}
 use Rattle.std.specs.List.{list_all, prefix_len}
-use Rattle.kt_tree.specs.declared.token.Kind.{Kind}
 use Rattle.kt_tree.specs.declared.token.Kind.TheVariants.{AsSafe}
 use Rattle.kt_tree.specs.Characters.{begins_name, continues_name}
-use Rattle.kt_tree.specs.Lexemes.{Lexeme, fixed, return_at, same, keyword_of}
+use Rattle.kt_tree.specs.Lexemes.{fixed, return_at, same, keyword_of}
 use Rattle.kt_tree.specs.Longest.{longest, token_at}
 use Rattle.kt_tree.specs.Text.{first, run, after_run}
-use Rattle.kt_tree.specs.Words.{lexeme, word_lexeme, is_word, is_label, keyword_or_name}
+use Rattle.kt_tree.specs.Words.{lexeme, is_word, is_label, keyword_or_name}
 use Rattle.kt_lex.specs.Steps.{strip_text, label_in, label_at}
 use Rattle.kt_lex.proofs.Fronts.{list_all-run, list_all-past, prefix_len-le, after_run-stops, inside_run, is_word-past, is_word-begins, is_word-other}
 use Rattle.kt_lex.proofs.Longest.{TokenAt, longest-some}

@@ -1,5 +1,5 @@
 -- How the code's values stand to the definitions.
-use Rattle.std.specs.Prelude.{ℕ, List, map, Option, Some, None, string_bytes}
+use Rattle.std.specs.Prelude.{ℕ, List, string_bytes}
 use Rattle.std.specs.Borrow.{Bor}
 use Rattle.std.specs.Str.{chars}
 use Rattle.kt_tree.specs.Lexemes.{Lexeme, fixed, name, return_at, number, piece, name_part}

@@ -41,7 +41,7 @@ push_digit base n c =
 abbrev pub label_in : List ℕ → Option (List ℕ × List ℕ)
 label_in text =
     if begins_name (first text) then
-      (if is_some (keyword_of (run continues_name text)) then None else Some (run continues_name text, after_run continues_name text))
+    (if is_some (keyword_of (run continues_name text)) then None else Some (run continues_name text, after_run continues_name text))
     else None
 
 -- the name behind `return@`, and what follows it

@@ -1,9 +1,9 @@
 -- The steps by which the code reads a string.
-use Rattle.std.specs.Prelude.{◌≡◌, ℕ, Bool, ◌&&◌, ◌||◌, ◌==◌, if◌then◌else◌, List, [], ◌∷◌, Option, Some, None, option_map}
+use Rattle.std.specs.Prelude.{◌≡◌, ℕ, ◌==◌, if◌then◌else◌, List, [], ◌∷◌, Option, Some, None, option_map}
 use Rattle.kt_tree.specs.declared.token.Kind.{Kind}
 use Rattle.kt_tree.specs.declared.token.Kind.TheVariants.{This, ThisPart, ExprPart}
 use Rattle.kt_tree.specs.Characters.{continues_name}
-use Rattle.kt_tree.specs.Lexemes.{Lexeme, fixed, piece, name_part, keyword_of}
+use Rattle.kt_tree.specs.Lexemes.{fixed, piece, name_part, keyword_of}
 use Rattle.kt_tree.specs.Moves.{Move, take, bad}
 use Rattle.kt_tree.specs.Strings.{simple_escape, code_unit, is_code_unit, is_plain}
 use Rattle.kt_tree.specs.Text.{first, after_first, run, after_run}

@@ -10,8 +10,7 @@ ghost use Rattle.kt_tree.specs.Tokens.{Lexed, AreTokens, IsBadPlace};
 pub fn tokens_lie_in_the_text()
     ensures lie { (text : List ℕ) (ts : List Lexed) → AreTokens text ts → Lies text [] (without_mark text) ts }
     ensures rise { (text : List ℕ) (ts : List Lexed) → AreTokens text ts → Rise 0 ts }
-{
-}
+{}
 
 /// A text has tokens or a bad place, not both, and no two of either.
 pub fn tokens_are_determined()
@@ -20,5 +19,4 @@ pub fn tokens_are_determined()
     ensures one_start { (text : List ℕ) (a b c d : ℕ) → IsBadPlace text a b → IsBadPlace text c d → a ≡ c }
     ensures one_end { (text : List ℕ) (a b c d : ℕ) → IsBadPlace text a b → IsBadPlace text c d → b ≡ d }
     ensures not_both { (text : List ℕ) (ts : List Lexed) (start end : ℕ) → AreTokens text ts → IsBadPlace text start end → ⊥ }
-{
-}
+{}

@@ -30,11 +30,7 @@ pub enum Move<'a> {
 }
 
 /// What stands at the front of the rest, where these brackets are open. `NoMemory` where a piece of a string finds none.
-pub fn next_move<'a>(
-    alloc: Global,
-    stack: &[Bracket],
-    rest: &'a str,
-) -> Result<Move<'a>, NoMemory>
+pub fn next_move<'a>(alloc: Global, stack: &[Bracket], rest: &'a str) -> Result<Move<'a>, NoMemory>
     ensures { IfOk result (λ m. move_of m ≡ spec.next_move (map bracket_of stack.now) (chars rest.now)) }
 {
     if in_string(stack) {

@@ -1,5 +1,5 @@
 -- Integers. Kotlin's specification, "Integer literals"; that there are no others than these, and the bound on their value, is this project's own.
-use Rattle.std.specs.Prelude.{ℕ, ◌+◌, ◌*◌, Bool, true, false, ◌&&◌, ◌||◌, ◌==◌, nat_lt, if◌then◌else◌, List, [], ◌∷◌, Option, Some, None}
+use Rattle.std.specs.Prelude.{ℕ, ◌+◌, ◌*◌, Bool, false, ◌&&◌, ◌||◌, ◌==◌, nat_lt, if◌then◌else◌, List, [], ◌∷◌, Option, Some, None}
 use Rattle.std.specs.Char.{digit_value}
 use Rattle.kt_tree.specs.Characters.{continues_name, is_digit}
 use Rattle.kt_tree.specs.Text.{first}

@@ -1,6 +1,5 @@
 -- The tokens of a text in the subject's own words: how they lie in it. A law says that the tokens as defined lie so.
-use Rattle.std.specs.Prelude.{◌≡◌, ℕ, ◌+◌, ◌<◌, ◌≤◌, Bool, true, false, not, ◌&&◌, ◌||◌, if◌then◌else◌, List, [], ◌∷◌, ◌++◌, length, take, drop, Option, Some, None}
-use Rattle.kt_tree.specs.declared.token.Kind.{Kind}
+use Rattle.std.specs.Prelude.{◌≡◌, ℕ, ◌<◌, ◌≤◌, Bool, true, false, ◌&&◌, if◌then◌else◌, List, [], ◌∷◌, ◌++◌, length, take, drop, Option, Some, None}
 use Rattle.kt_tree.specs.declared.token.Kind.TheVariants.{End}
 use Rattle.kt_tree.specs.Brackets.{Bracket, brackets_after, counts_lines, in_string, open_quote}
 use Rattle.kt_tree.specs.Characters.{is_space, is_line_end}

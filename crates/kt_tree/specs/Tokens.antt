@@ -1,5 +1,5 @@
 -- The tokens of a text, or the place where none can be formed. The code is a scanner with a state; here a text and a whole list stand in a relation. Which failure is named is this project's own.
-use Rattle.std.specs.Prelude.{◌≡◌, ℕ, zero, suc, ◌+◌, Bool, false, ◌&&◌, ◌||◌, List, [], ◌∷◌, Option, Some, None}
+use Rattle.std.specs.Prelude.{◌≡◌, ℕ, zero, suc, Bool, false, ◌&&◌, ◌||◌, List, [], ◌∷◌, Option, Some, None}
 use Rattle.kt_tree.specs.declared.token.Kind.TheVariants.{End}
 use Rattle.kt_tree.specs.Brackets.{Bracket, brackets_after, counts_lines, open_quote}
 use Rattle.kt_tree.specs.Lexemes.{Lexeme, fixed}
@@ -41,7 +41,7 @@ abbrev pub step : List ℕ → (List Bracket → Bool → List ℕ → Outcome) 
 step whole go_on stack fresh rest (skip line after) = go_on stack (fresh || line) after
 step whole go_on stack fresh rest (take l after) =
     with_token (lexed whole l (fresh && counts_lines stack) rest after)
-        (go_on (brackets_after l (place whole rest) (place whole after) stack) false after)
+    (go_on (brackets_after l (place whole rest) (place whole after) stack) false after)
 step whole go_on stack fresh rest stop =
     unclosed_or (tokens (lexed whole (fixed End) (fresh && counts_lines stack) rest rest ∷ [])) (open_quote stack)
 step whole go_on stack fresh rest unclosed = unclosed_or (bad_here whole rest) (open_quote stack)

@@ -1,7 +1,7 @@
-use Rattle.std.proofs.Common.{◌≡◌, ℕ, ◌-◌, ◌++◌, ◌∷◌, List, [], length, take, map, slice_get, vec_len, Option, option_map, true, false, refl, sym, ap, ap₂, ◌∙◌, rules, append-nil}
-use Rattle.std.proofs.lemmas.List.{take-map, length-map, map-append}
+use Rattle.std.proofs.Common.{◌≡◌, ◌-◌, List, length, take, map, slice_get, vec_len, option_map, true, false, sym, ap, ◌∙◌, rules, append-nil}
+use Rattle.std.proofs.lemmas.List.{take-map, length-map}
 use Rattle.std.proofs.lemmas.Option.{slice_get-map}
-use Rattle.kt_tree.specs.Brackets.{Bracket as Open, innermost, closes, opened}
+use Rattle.kt_tree.specs.Brackets.{innermost, closes}
 use Rattle.kt_lex.specs.declared.brackets.Bracket.{Bracket}
 use Rattle.kt_lex.specs.Opened.{bracket_of}
 use Rattle.kt_lex.proofs.brackets.after.Goals as goal

@@ -1,7 +1,6 @@
-use Rattle.std.proofs.Common.{◌≡◌, true, false, not, ◌&&◌, ◌==◌, nat_lt, ◌∷◌, [], None, Some, refl, sym, ap, ◌∙◌, inl, inr, rules, arith, subst}
+use Rattle.std.proofs.Common.{◌≡◌, true, false, ◌&&◌, nat_lt, None, Some, sym, ap, ◌∙◌, inl, inr, rules}
 use Rattle.std.proofs.lemmas.Bool.{and_left}
 use Rattle.std.proofs.lemmas.Bool.Decides.{nat_tests}
-use Rattle.std.proofs.lemmas.Grind.{common_steps}
 use Rattle.std.specs.Str.{chars}
 use Rattle.kt_tree.specs.Text.{first}
 use Rattle.kt_lex.specs.Steps.{push_digit}
@@ -45,8 +44,8 @@ returns-then-ends_in_digit c =
     let end = c.in_default.ensures.none in
     let begins : is_digit_of c.args.base (first (chars c.args.text.now)) ≡ true = search (rules, nat_tests) in
     sym (digits-some c.args.base l.value (chars c.args.text.now) begins
-      (l.invariant.ends ∙ ap (end_in_digit c.args.base l.ends_in_digit) end ∙ c.if-ends_in_digit.true)
-      (l.invariant.value ∙ ap (value_after c.args.base l.value) end) l.invariant.limit)
+    (l.invariant.ends ∙ ap (end_in_digit c.args.base l.ends_in_digit) end ∙ c.if-ends_in_digit.true)
+    (l.invariant.value ∙ ap (value_after c.args.base l.value) end) l.invariant.limit)
 
 pub returns-else-ends_in_digit : goal.returns-else-ends_in_digit
 returns-else-ends_in_digit c =

@@ -1,7 +1,6 @@
-use Rattle.std.proofs.Common.{◌≡◌, ℕ, List, map, Option, option_map, refl, ap, ◌∙◌, bytes_eq, Bor}
+use Rattle.std.proofs.Common.{◌≡◌, ℕ, List, map, option_map, refl, ap, ◌∙◌, bytes_eq, Bor}
 use Rattle.std.specs.Map.{lookup}
 use Rattle.kt_table.proofs.Texts.{first_value-text}
-use Rattle.kt_tree.specs.declared.token.Kind.{Kind}
 use Rattle.kt_tree.specs.Lexemes.{find, keywords, keyword_of}
 use Rattle.kt_lex.specs.declared.keywords.Keyword.{Keyword}
 use Rattle.kt_lex.specs.declared.keywords.TheConstants.{KEYWORDS}

@@ -1,4 +1,4 @@
-use Rattle.std.proofs.Common.{◌≡◌, ◌+◌, ◌≤◌, List, ◌∷◌, ◌++◌, [], length, true, refl, ap, ◌∙◌, arith, length-append}
+use Rattle.std.proofs.Common.{◌≡◌, ◌+◌, List, ◌∷◌, ◌++◌, [], length, refl, ap, ◌∙◌, arith, length-append}
 use Rattle.kt_tree.specs.declared.token.Token.{Token}
 use Rattle.kt_tree.specs.TokenLists.{ends_once}
 use Rattle.kt_lex.proofs.InnerTokens.{ends_once-push}

@@ -1,19 +1,17 @@
-use Rattle.std.proofs.Common.{◌≡◌, ℕ, ◌+◌, ◌-◌, ◌<◌, ◌≤◌, Bool, true, false, ◌&&◌, ◌||◌, List, [], ◌∷◌, ◌++◌, length, map, Option, Some, None, option_map, refl, sym, ap, ap₂, ◌∙◌, rules, arith, subst}
+use Rattle.std.proofs.Common.{◌≡◌, ℕ, ◌-◌, ◌≤◌, false, ◌&&◌, List, length, map, Option, Some, None, sym, ap, ap₂, ◌∙◌, rules, arith, subst}
 use Rattle.std.proofs.lemmas.Str.{length-le-encodes, encodes-chars}
 use Rattle.std.specs.Str.{chars, IsUtf8}
 use Rattle.kt_tree.specs.Brackets.{Bracket, brackets_after, counts_lines, open_quote}
-use Rattle.kt_tree.specs.BuiltIn.{built_in}
 use Rattle.kt_tree.specs.Moves.{Move, skip, take, stop, unclosed, bad, next_move}
 use Rattle.kt_tree.specs.Text.{place, after_first, width, without_mark}
-use Rattle.kt_tree.specs.Tokens.{unclosed_or, bad_here, bad_at, outcome, IsBadPlace}
-use Rattle.kt_tree.specs.declared.token.Span.{Span}
+use Rattle.kt_tree.specs.Tokens.{unclosed_or, bad_at}
 use Rattle.kt_lex.specs.Faults.{quote_or}
 use Rattle.kt_lex.specs.Opened.{bracket_of, bounds}
 use Rattle.kt_lex.specs.Reading.{lexeme_of}
 use Rattle.kt_lex.specs.Scanning.{move_of}
 use Rattle.kt_lex.proofs.Lexing.{IsLexed, lexed-start, lexed-skip, lexed-take, lexed-stop}
 use Rattle.kt_lex.proofs.Rests.{MoveLeaves, next_move-leaves, rest-shorter, rest-narrower, width-chars, after_first-narrow}
-use Rattle.kt_lex.proofs.TokenSteps.{in_front, SoFar, at_open_end, at_unclosed, at_bad}
+use Rattle.kt_lex.proofs.TokenSteps.{in_front, at_open_end, at_unclosed, at_bad}
 use Rattle.kt_lex.proofs.lexer.scan.Goals as goal
 
 left_by : (stack : List Bracket) (cs : List ℕ) (m : Move) → m ≡ next_move stack cs → MoveLeaves cs m
@@ -112,7 +110,7 @@ moves-preserved c =
       text = utf8;
       within = omega (arith, l.invariant.within, shorter);
       lexed = subst (λ s. IsLexed whole c.push.new.list c.push.new.names s false next) (sym brackets)
-        (lexed-take whole l.list c.push.new.list l.names c.push.new.names stack l.fresh (l.fresh && c.counts_lines.result) rest next (lexeme_of c.in-Ok-Take.word) span
+          (lexed-take whole l.list c.push.new.list l.names c.push.new.names stack l.fresh (l.fresh && c.counts_lines.result) rest next (lexeme_of c.in-Ok-Take.word) span
           e l.invariant.lexed start end flag c.in_ok-push-in-Ok-Take.ensures.list c.in_ok-push-in-Ok-Take.ensures.names c.in_ok-push-in-Ok-Take.ensures.len);
     }
 
@@ -142,7 +140,7 @@ returns-in-Ok-Stop-clause-tokens c =
     let here = place_is c.args.text.now l.rest.now c.utf8.text l.invariant.text in
     let flag : (l.fresh && c.counts_lines-in-Ok-Stop.result) ≡ (l.fresh && counts_lines stack) = ap (λ b. l.fresh && b) (c.counts_lines-in-Ok-Stop.ensures ∙ ap (λ s. counts_lines (map bracket_of s)) c.deref-in-Ok-Stop-2.ensures.value) in
     lexed-stop whole l.list l.names stack l.fresh (l.fresh && c.counts_lines-in-Ok-Stop.result) rest span c.in_ok-finish-in-Ok-Stop.field-0 e none l.invariant.lexed
-      (c.span_of.ensures.start ∙ sym here) (c.span_of.ensures.end ∙ sym here) flag c.in_ok-finish-in-Ok-Stop.ensures.list c.in_ok-finish-in-Ok-Stop.ensures.names
+    (c.span_of.ensures.start ∙ sym here) (c.span_of.ensures.end ∙ sym here) flag c.in_ok-finish-in-Ok-Stop.ensures.list c.in_ok-finish-in-Ok-Stop.ensures.names
 
 pub span_of-here-requires-clause-next : goal.span_of-here-requires-clause-next
 span_of-here-requires-clause-next c = omega (arith, c.moves.invariant.within, after_first-within c.moves.rest.now c.after_first.result.now c.moves.invariant.text c.after_first.utf8 c.after_first.ensures)

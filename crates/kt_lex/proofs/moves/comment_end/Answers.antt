@@ -1,8 +1,7 @@
-use Rattle.std.proofs.Common.{◌≡◌, true, false, ◌∷◌, [], ◌&&◌, ◌==◌, None, Some, sym, ap, ◌∙◌, rules, arith}
+use Rattle.std.proofs.Common.{◌≡◌, true, false, ◌∷◌, [], ◌&&◌, ◌==◌, None, sym, ap, ◌∙◌, rules, arith}
 use Rattle.std.specs.Str.{chars}
 use Rattle.std.proofs.lemmas.Str.{len_utf8_bounds}
 use Rattle.std.proofs.lemmas.Grind.{common_steps}
-use Rattle.std.proofs.lemmas.Bool.Decides.{nat_tests}
 use Rattle.kt_tree.specs.Moves.{comment_end}
 use Rattle.kt_lex.proofs.Comments.{comment_end-nil, comment_end-one, comment_end-last, comment_end-inner, comment_end-open, comment_end-other}
 use Rattle.kt_lex.proofs.moves.comment_end.Goals as goal

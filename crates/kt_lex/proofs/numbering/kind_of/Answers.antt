@@ -1,4 +1,4 @@
-use Rattle.std.proofs.Common.{◌≡◌, ℕ, List, string_bytes, sym, ap, ◌∙◌, rules}
+use Rattle.std.proofs.Common.{◌≡◌, string_bytes, sym, ap, ◌∙◌, rules}
 use Rattle.std.proofs.lemmas.Str.{encodes-chars, IsUtf8-string_bytes}
 use Rattle.kt_tree.specs.declared.token.Kind.TheVariants.{Text}
 use Rattle.kt_tree.specs.Numbering.{kind_of}

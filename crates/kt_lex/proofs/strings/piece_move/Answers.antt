@@ -1,4 +1,4 @@
-use Rattle.std.proofs.Common.{◌≡◌, ℕ, List, [], ◌++◌, ◌∷◌, string_bytes, refl, sym, ap, ap₂, ◌∙◌, rules, append-nil, subst}
+use Rattle.std.proofs.Common.{◌≡◌, ℕ, List, [], ◌++◌, ◌∷◌, string_bytes, sym, ap, ap₂, ◌∙◌, rules, append-nil, subst}
 use Rattle.std.proofs.lemmas.Str.{encodes-chars, encodes-append, chars_from_encodes, chars-nil, IsUtf8-string_bytes}
 use lib.Utf8.{encodes, encode}
 use Rattle.std.specs.Str.{chars, IsUtf8}

@@ -1,12 +1,10 @@
-use Rattle.std.proofs.Common.{◌≡◌, ℕ, Bool, true, false, List, ◌∷◌, ◌&&◌, ◌==◌, Some, None, Result, Ok, Err, sym, ap, ◌∙◌, rules}
+use Rattle.std.proofs.Common.{◌≡◌, true, false, ◌&&◌, ◌==◌, Result, Ok, Err, sym, ◌∙◌, rules}
 use Rattle.std.proofs.lemmas.Bool.Decides.{nat_tests}
 use Rattle.std.specs.Result.{IfOk}
 use Rattle.std.specs.Str.{chars}
 use Rattle.kt_tree.specs.Characters.{is_line_end}
-use Rattle.kt_tree.specs.Moves.{string_move}
 use Rattle.kt_tree.specs.Strings.{begins_part}
 use Rattle.kt_lex.specs.Scanning.{move_of}
-use Rattle.kt_lex.specs.Units.{unit, part_move}
 use Rattle.kt_lex.proofs.StringFronts.{close_move-is, part_move-is, piece_move-is, bad_move-is}
 use Rattle.kt_lex.proofs.strings.string_move.Goals as goal
 

@@ -1,4 +1,4 @@
-use Rattle.std.proofs.Common.{◌≡◌, ℕ, true, false, List, Some, None, is_some, codes, option_map, option_and_then, refl, sym, ap, ◌∙◌, rules}
+use Rattle.std.proofs.Common.{◌≡◌, ℕ, true, false, List, Some, None, codes, option_and_then, refl, sym, ap, ◌∙◌, rules}
 use Rattle.std.specs.Str.{chars}
 use Rattle.kt_tree.specs.Characters.{begins_name, continues_name}
 use Rattle.kt_tree.specs.Lexemes.{keyword_of}

@@ -1,8 +1,6 @@
-use Rattle.std.proofs.Common.{◌≡◌, ℕ, List, Some, None, codes, refl, sym, ap, ◌∙◌, rules}
+use Rattle.std.proofs.Common.{◌≡◌, ℕ, List, Some, None, codes, refl, sym, ap, ◌∙◌}
 use Rattle.std.specs.Str.{chars}
-use Rattle.kt_tree.specs.Characters.{continues_name}
 use Rattle.kt_tree.specs.Lexemes.{keyword_of}
-use Rattle.kt_tree.specs.Text.{run, after_run}
 use Rattle.kt_lex.specs.Keywords.{kind_of}
 use Rattle.kt_lex.specs.Steps.{strip_text, label_at}
 use Rattle.kt_lex.proofs.WordFronts.{token_at-as_safe, token_at-label, token_at-word}

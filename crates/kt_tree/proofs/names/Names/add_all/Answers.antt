@@ -1,4 +1,4 @@
-use Rattle.std.proofs.Common.{◌≡◌, ℕ, ◌+◌, ◌-◌, ◌<◌, ◌≤◌, List, length, map, drop, get_or, drop-cons, add-one, sym, ap, ◌∙◌, arith, rules}
+use Rattle.std.proofs.Common.{◌≡◌, ℕ, ◌+◌, ◌<◌, List, length, map, drop, get_or, drop-cons, add-one, sym, ap, ◌∙◌, arith}
 use Rattle.std.specs.Borrow.{Bor}
 use Rattle.kt_tree.specs.BuiltIn.{with_texts}
 use Rattle.kt_tree.specs.Names.{with_text}
@@ -16,6 +16,6 @@ loop-text-preserved c =
     let i = c.loop-text.text-index in
     record {
       names = ap (λ t. with_texts t (map (λ u. u.now) (drop (i + 1) texts))) c.in_ok-number.ensures.names
-        ∙ sym (next_text c.loop-text.self texts i _ c.loop-text-test.true) ∙ c.loop-text.invariant.names;
+          ∙ sym (next_text c.loop-text.self texts i _ c.loop-text-test.true) ∙ c.loop-text.invariant.names;
       room = omega (arith, c.in_ok-number.ensures.len, c.loop-text.invariant.room, c.loop-text-test.true);
     }
