@@ -7,10 +7,12 @@ use Rattle.kt_tree.specs.Text.{first}
 use Rattle.kt_tree.specs.Integers.{is_digit_of, end_in_digit, are_digits, value_after, integer_limit, digits}
 use Rattle.kt_lex.specs.Steps.{push_digit}
 
+-- a false conjunction, grouped to the left
 and_assoc-false : (a b c : Bool) → (b && c) ≡ false → ((a && b) && c) ≡ false
 and_assoc-false true b c h = h
 and_assoc-false false b c h = refl
 
+-- `_` is no digit
 underscore : (base : ℕ) → base ≤ 16 → is_digit_of base 95 ≡ false
 underscore base h = le-ltb 36 base (omega arith)
 
@@ -32,6 +34,7 @@ pub record Pushes (base n m c : ℕ) (last : Bool) (cs : List ℕ) : Type 0 wher
   pub ends : end_in_digit base last (c ∷ cs) ≡ end_in_digit base (not (c == 95)) cs
   pub limit : m < integer_limit
 
+-- one more digit, where the value stays below the limit
 pub push-some : (base n m c : ℕ) (last : Bool) (cs : List ℕ) → base ≤ 16 → n < integer_limit → push_digit base n c ≡ Some m → Pushes base n m c last cs
 push-some base n m c last cs high small e =
     elim (cases_Bool (c == 95)) [
@@ -63,6 +66,7 @@ push-some base n m c last cs high small e =
           ]
     ]
 
+-- a character that is no digit, or one too many
 pub push-none : (base n c : ℕ) (last : Bool) (cs : List ℕ) → 2 ≤ base → push_digit base n c ≡ None
     → (end_in_digit base last (c ∷ cs) && nat_lt (value_after base n (c ∷ cs)) integer_limit) ≡ false
 push-none base n c last cs low e =
@@ -83,6 +87,7 @@ push-none base n c last cs low e =
           ]
     ]
 
+-- the digits have that value
 pub digits-some : (base v : ℕ) (text : List ℕ) → is_digit_of base (first text) ≡ true → end_in_digit base false text ≡ true
     → value_after base 0 text ≡ v → v < integer_limit → digits base text ≡ Some v
 unfolding digits
@@ -90,6 +95,7 @@ digits-some base v text begins ends value small =
     let fits : nat_lt (value_after base 0 text) integer_limit ≡ true = lt-ltb (value_after base 0 text) integer_limit (omega (arith, value)) in
     rw (begins, ends, fits) (ap Some value)
 
+-- the digits have none
 pub digits-none : (base : ℕ) (text : List ℕ) → (is_digit_of base (first text) ≡ false) ⊎ ((end_in_digit base false text && nat_lt (value_after base 0 text) integer_limit) ≡ false) → digits base text ≡ None
 unfolding digits
 digits-none base text (inl first_is_none) = rw first_is_none refl

@@ -30,6 +30,7 @@ list_all-past p (c ∷ cs) (suc k) past within =
       | inr miss ↦ rw miss refl
     ]
 
+-- a run is no longer than its text
 pub prefix_len-le : (p : ℕ → Bool) (cs : List ℕ) → prefix_len p cs ≤ length cs
 prefix_len-le p [] = le_refl 0
 prefix_len-le p (c ∷ cs) =
@@ -76,6 +77,7 @@ is_word-all (c ∷ cs) h =
       | inr other ↦ rw other refl
     ]
 
+-- nor is one that is longer than the run
 pub is_word-past : (cs : List ℕ) (k : ℕ) → prefix_len continues_name cs < k → k ≤ length cs → is_word (take k cs) ≡ false
 is_word-past cs k past within = is_word-all (take k cs) (list_all-past continues_name cs k past within)
 

@@ -19,22 +19,27 @@ use Rattle.kt_tree.specs.Words.{is_word, is_label, is_word_operator, lexeme, wor
 use Rattle.kt_lex.specs.Faults.{is_inner}
 use Rattle.kt_lex.proofs.Longest.{token_at-is}
 
+-- the token is the end of the file
 abbrev pub is_last : Lexeme → Bool
 is_last (fixed kind) = is_end kind
 is_last l = false
 
+-- the kind, if there is one, is not the end of the file
 abbrev InnerKind : Option Kind → Type 0
 InnerKind None = Unit {0}
 InnerKind (Some k) = is_end k ≡ false
 
+-- the token, if there is one, is not the end of the file
 abbrev Inner : Option Lexeme → Type 0
 Inner None = Unit {0}
 Inner (Some l) = is_last l ≡ false
 
+-- a test whose negation is true is false
 not-true : (b : Bool) → not b ≡ true → b ≡ false
 not-true true h = sym h
 not-true false h = refl
 
+-- no row of a table is, if that is tested of all
 find-inner : (rows : List (List ℕ × Kind)) (word : List ℕ) → list_all (λ row. not (is_end row.1)) rows ≡ true → InnerKind (find rows word)
 find-inner [] word h = tt
 find-inner (row ∷ rows) word h =
@@ -44,68 +49,84 @@ find-inner (row ∷ rows) word h =
       | inr miss ↦ rw miss (find-inner rows word parts.1)
     ]
 
+-- no keyword is
 keyword-inner : (word : List ℕ) → InnerKind (keyword_of word)
 unfolding keyword_of
 keyword-inner word = find-inner keywords word refl
 
+-- no operator is
 operator-inner : (word : List ℕ) → InnerKind (operator_of word)
 unfolding operator_of
 operator-inner word = find-inner operators word refl
 
+-- neither branch of a choice is
 either : (b : Bool) (x y : Option Lexeme) → Inner x → Inner y → Inner (if b then x else y)
 either true x y p q = p
 either false x y p q = q
 
+-- no keyword or name is
 word-inner : (o : Option Kind) (word : List ℕ) → InnerKind o → Inner (Some (keyword_or_name o word))
 word-inner None word h = refl
 word-inner (Some k) word h = h
 
+-- no operator before a text is
 before-inner : (o : Option Kind) (after : List ℕ) → InnerKind o → Inner (operator_before o after)
 before-inner None after h = tt
 before-inner (Some k) after h = either (is_word_operator k && continues_name (first after)) None (Some (fixed k)) tt h
 
+-- no integer is
 number-inner : (o : Option ℕ) → Inner (option_map number o)
 number-inner None = tt
 number-inner (Some n) = refl
 
+-- no piece of a string is
 piece-inner : (o : Option (List ℕ)) → Inner (option_map piece o)
 piece-inner None = tt
 piece-inner (Some v) = refl
 
+-- no name in a string is
 part-inner : (o : Option Kind) (word : List ℕ) → Inner (word_part o word)
 part-inner None word = refl
 part-inner (Some This) word = refl
 part-inner (Some k) word = tt
 
+-- no label is
 return-inner : (word after : List ℕ) → Inner (if same (take 7 word) (codes "return@") && is_label (drop 7 word) after then Some (return_at (drop 7 word)) else None)
 return-inner word after = either (same (take 7 word) (codes "return@") && is_label (drop 7 word) after) (Some (return_at (drop 7 word))) None refl tt
 
+-- `as?` isn't
 safe-inner : (word : List ℕ) (o : Option Lexeme) → Inner o → Inner (if same word (codes "as?") then Some (fixed AsSafe) else o)
 safe-inner word o h = either (same word (codes "as?")) (Some (fixed AsSafe)) o refl h
 
+-- no word is
 word_lexeme-inner : (word after : List ℕ) → Inner (word_lexeme word after)
 word_lexeme-inner word after =
     either (is_word word) (Some (keyword_or_name (keyword_of word) word))
     (if same word (codes "as?") then Some (fixed AsSafe) else if same (take 7 word) (codes "return@") && is_label (drop 7 word) after then Some (return_at (drop 7 word)) else None)
     (word-inner (keyword_of word) word (keyword-inner word)) (safe-inner word _ (return-inner word after))
 
+-- no integer before a text is
 integer_lexeme-inner : (word after : List ℕ) → Inner (integer_lexeme word after)
 integer_lexeme-inner word after = either (bars_integer after) None (option_map number (integer word)) tt (number-inner (integer word))
 
+-- no token outside strings is
 lexeme-inner : (word after : List ℕ) → Inner (lexeme word after)
 lexeme-inner word after =
     either (begins_name (first word)) (word_lexeme word after) (if is_digit (first word) then integer_lexeme word after else operator_lexeme word after)
     (word_lexeme-inner word after)
     (either (is_digit (first word)) (integer_lexeme word after) (operator_lexeme word after) (integer_lexeme-inner word after) (before-inner (operator_of word) after (operator-inner word)))
 
+-- no part of a string is
 part_lexeme-inner : (word after : List ℕ) → Inner (part_lexeme word after)
 part_lexeme-inner word after =
     either (same word (codes "{")) (Some (fixed ExprPart)) (if is_word word && not (continues_name (first after)) then word_part (keyword_of word) word else None) refl
     (either (is_word word && not (continues_name (first after))) (word_part (keyword_of word) word) None (part-inner (keyword_of word) word) tt)
 
+-- the closing quote isn't
 close-inner : (cs : List ℕ) → Inner (if same cs [] then Some (fixed Close) else None)
 close-inner cs = either (same cs []) (Some (fixed Close)) None refl tt
 
+-- no token within a string is
 string_lexeme-inner : (word after : List ℕ) → Inner (string_lexeme word after)
 string_lexeme-inner [] after = tt
 string_lexeme-inner (c ∷ cs) after =
@@ -122,23 +143,28 @@ MoveInner stop = Unit {0}
 MoveInner unclosed = Unit {0}
 MoveInner bad = Unit {0}
 
+-- neither branch of a choice takes the end of the file
 either_move : (b : Bool) (x y : Move) → MoveInner x → MoveInner y → MoveInner (if b then x else y)
 either_move true x y p q = p
 either_move false x y p q = q
 
+-- a move that takes the longest token doesn't
 taken : (f : List ℕ → List ℕ → Option Lexeme) → ((word after : List ℕ) → Inner (f word after)) → (text : List ℕ) (o : Option (Lexeme × List ℕ)) → token_at f text ≡ o → MoveInner (take_or bad o)
 taken f inner text None e = tt
 taken f inner text (Some p) e =
     let is = token_at-is f text p.0 p.1 e in
     subst Inner is.token (inner is.word p.1)
 
+-- a comment doesn't
 comment-inner : (o : Option (List ℕ)) → MoveInner (skip_comment o)
 comment-inner None = tt
 comment-inner (Some rest) = tt
 
+-- nor does a move that takes the longest word
 word_move-inner : (cs : List ℕ) → MoveInner (take_or bad (token_at lexeme cs))
 word_move-inner cs = taken lexeme lexeme-inner cs (token_at lexeme cs) refl
 
+-- no move outside strings does
 front_move-inner : (cs : List ℕ) → MoveInner (front_move cs)
 unfolding front_move
 front_move-inner [] = tt
@@ -160,15 +186,18 @@ front_move-inner (c ∷ cs) =
           ]
     ]
 
+-- no move within a string does
 string_move-inner : (cs : List ℕ) → MoveInner (string_move cs)
 unfolding string_move
 string_move-inner [] = tt
 string_move-inner (c ∷ cs) =
     either_move (is_line_end c) unclosed (take_or bad (token_at string_lexeme (c ∷ cs))) tt (taken string_lexeme string_lexeme-inner (c ∷ cs) (token_at string_lexeme (c ∷ cs)) refl)
 
+-- no move does
 pub next_move-inner : (stack : List Bracket) (cs : List ℕ) → MoveInner (next_move stack cs)
 next_move-inner stack cs = either_move (in_string stack) (string_move cs) (front_move cs) (string_move-inner cs) (front_move-inner cs)
 
+-- a number for the name doesn't make a token the end
 kind_of-inner : (names : List (List ℕ)) (l : Lexeme) → is_last l ≡ false → is_end (kind_of names l) ≡ false
 kind_of-inner names (fixed kind) h = h
 kind_of-inner names (name word) h = refl

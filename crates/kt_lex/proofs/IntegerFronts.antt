@@ -15,25 +15,31 @@ use Rattle.kt_lex.proofs.Fronts.{list_all-past, prefix_len-le, inside_run}
 use Rattle.kt_lex.proofs.Longest.{TokenAt, longest-some, longest-none}
 use Rattle.kt_lex.proofs.NameCharacters.{continues_name-ascii}
 
+-- of ASCII, a hexadecimal digit is a letter or a digit
 hex_is_alphanumeric : (c : ℕ) → c < 128 → (not (is_digit_of 16 c) || is_ascii_alphanumeric c) ≡ true
 hex_is_alphanumeric c h = agree_below_at (λ x. not (is_digit_of 16 x) || is_ascii_alphanumeric x) (λ x. true) 128 c refl h
 
+-- what a true implication says
 implied : (a b : Bool) → (not a || b) ≡ true → a ≡ true → b ≡ true
 implied true b h e = h
 implied false b h e = absurd (false≢true e)
 
+-- the test of what is less
 lt_is : (a b : ℕ) → a < b → nat_lt a b ≡ true
 lt_is a b h = lt-ltb a b h
 
+-- no digit lies past ASCII
 past_ascii : (c base : ℕ) → 128 ≤ c → base ≤ 16 → is_digit_of base c ≡ true → ⊥
 past_ascii c base above high h =
     let large : digit_value c ≡ 36 = grind (arith, nat_tests) in
     let low : digit_value c < base = ltb-true (digit_value c) base h in
     omega arith
 
+-- of ASCII, a digit is a letter or a digit
 digit_is_alphanumeric : (c : ℕ) → c < 128 → (not (is_digit c) || is_ascii_alphanumeric c) ≡ true
 digit_is_alphanumeric c h = agree_below_at (λ x. not (is_digit x) || is_ascii_alphanumeric x) (λ x. true) 128 c refl h
 
+-- a decimal digit continues an identifier
 digit_char-continues : (c : ℕ) → is_digit c ≡ true → continues_name c ≡ true
 digit_char-continues c h =
     let bounds = and_parts (nat_le 48 c) (nat_le c 57) h in
@@ -54,9 +60,11 @@ digit-continues base c high h =
       | inr above ↦ absurd (past_ascii c base above high h)
     ]
 
+-- `_` continues an identifier
 line-continues : continues_name 95 ≡ true
 line-continues = continues_name-ascii 95 (lit< tt)
 
+-- digits and `_` continue an identifier
 end_in_digit-continues : (base : ℕ) (last : Bool) (cs : List ℕ) → base ≤ 16 → end_in_digit base last cs ≡ true → list_all continues_name cs ≡ true
 end_in_digit-continues base last [] high h = refl
 end_in_digit-continues base last (c ∷ cs) high h =
@@ -67,6 +75,7 @@ end_in_digit-continues base last (c ∷ cs) high h =
       | inr line ↦ and_from (continues_name c) (list_all continues_name cs) (ap continues_name (eqb-true c 95 line) ∙ line-continues) more
     ]
 
+-- so do the characters of a value
 digits-continue : (base v : ℕ) (cs : List ℕ) → base ≤ 16 → digits base cs ≡ Some v → list_all continues_name cs ≡ true
 unfolding digits
 digits-continue base v cs high e =
@@ -116,13 +125,16 @@ shorter_integer text m h =
     let bars : bars_integer (drop m text) ≡ true = ap bars_integer e ∙ or_left (continues_name d) (d == 46 && is_digit (first ds)) pass in
     rw bars refl
 
+-- no integer has a character that continues no identifier, by its value
 none_unless : (o : Option ℕ) (cs : List ℕ) → integer cs ≡ o → list_all continues_name cs ≡ false → integer cs ≡ None
 none_unless None cs e h = e
 none_unless (Some v) cs e h = absurd (true≢false (sym (integer-continues v cs e) ∙ h))
 
+-- no integer has a character that continues no identifier
 not_integer : (cs : List ℕ) → list_all continues_name cs ≡ false → integer cs ≡ None
 not_integer cs h = none_unless (integer cs) cs refl h
 
+-- a front that is longer than the run is no integer
 longer_integer : (text : List ℕ) (m : ℕ) → prefix_len continues_name text < m → m ≤ length text → integer_lexeme (take m text) (drop m text) ≡ None
 longer_integer text m lo hi =
     let none = not_integer (take m text) (list_all-past continues_name text m lo hi) in
@@ -131,10 +143,12 @@ longer_integer text m lo hi =
       | inr miss ↦ rw (miss, none) refl
     ]
 
+-- what begins with a digit is an integer or nothing
 integer_front : (c : ℕ) (cs : List ℕ) (m : ℕ) → begins_name c ≡ false → is_digit c ≡ true → 0 < m → lexeme (take m (c ∷ cs)) (drop m (c ∷ cs)) ≡ integer_lexeme (take m (c ∷ cs)) (drop m (c ∷ cs))
 integer_front c cs zero b d h = absurd (omega arith)
 integer_front c cs (suc m) b d h = rw (b, d) refl
 
+-- only the whole run may be an integer
 other_fronts : (c : ℕ) (cs : List ℕ) (m : ℕ) → begins_name c ≡ false → is_digit c ≡ true → 0 < m → m ≤ length (c ∷ cs) → (m ≡ prefix_len continues_name (c ∷ cs) → ⊥)
     → lexeme (take m (c ∷ cs)) (drop m (c ∷ cs)) ≡ None
 other_fronts c cs m b d some within other =
@@ -145,6 +159,7 @@ other_fronts c cs m b d some within other =
       | inr (inr more) ↦ same ∙ longer_integer (c ∷ cs) m more within
     ]
 
+-- no front is a token where the run isn't and no other one is
 all_fronts : (text : List ℕ) (n m : ℕ) → 0 < m → m ≤ length text → lexeme (take n text) (drop n text) ≡ None
     → ((m : ℕ) → 0 < m → m ≤ length text → (m ≡ n → ⊥) → lexeme (take m text) (drop m text) ≡ None)
     → lexeme (take m text) (drop m text) ≡ None
@@ -154,6 +169,7 @@ all_fronts text n m lo hi here others =
       | inr ne ↦ others m lo hi ne
     ]
 
+-- the longest token is the run, if that is an integer
 integer_cases : (text : List ℕ) (n : ℕ) (b : Bool) (o : Option ℕ) → 0 < n → n ≤ length text
     → bars_integer (drop n text) ≡ b → integer (take n text) ≡ o
     → lexeme (take n text) (drop n text) ≡ integer_lexeme (take n text) (drop n text)
@@ -168,6 +184,7 @@ integer_cases text n false None some within bars value same others =
 integer_cases text n false (Some v) some within bars value same others =
     ap (TokenAt text) (longest-some lexeme text n (number v) some within (same ∙ rw (bars, value) refl) (λ m lo hi. others m (omega arith) hi (λ e. omega arith)))
 
+-- where a digit stands the longest token is what the code reads
 pub token_at-integer : (text : List ℕ) → begins_name (first text) ≡ false → is_digit (first text) ≡ true → token_at lexeme text ≡ integer_at text
 unfolding integer_at
 token_at-integer [] b d = absurd (false≢true d)

@@ -17,10 +17,12 @@ use Rattle.kt_lex.proofs.InnerTokens.{MoveInner, next_move-inner, inner-push}
 use Rattle.kt_lex.proofs.Rests.{MoveLeaves, next_move-leaves, rest-shorter, without_mark-shorter}
 use Rattle.kt_lex.proofs.TokenSteps.{in_front-nil, SoFar, after_skip, after_take, at_stop}
 
+-- the names after one more token
 pub names_after-push : (texts : List (List ℕ)) (ts : List Lexed) (t : Lexed) → names_after texts (ts ++ t ∷ []) ≡ with_name (names_after texts ts) t.lexeme
 names_after-push texts [] t = refl
 names_after-push texts (u ∷ ts) t = names_after-push (with_name texts u.lexeme) ts t
 
+-- the tokens with one more
 pub numbered-push : (texts : List (List ℕ)) (ts : List Lexed) (t : Lexed) → numbered texts (ts ++ t ∷ []) ≡ numbered texts ts ++ token_of (names_after texts ts) t ∷ []
 numbered-push texts [] t = refl
 numbered-push texts (u ∷ ts) t = ap (λ us. token_of texts u ∷ us) (numbered-push (with_name texts u.lexeme) ts t)
@@ -35,6 +37,7 @@ pub record IsLexed (whole : List ℕ) (list : List Token) (names : List (List �
   pub few_names : length names ≤ 27 + length list
   pub inner : list_all is_inner list ≡ true
 
+-- before the first move
 pub lexed-start : (whole : List ℕ) → IsLexed whole [] built_in [] false (without_mark whole)
 lexed-start whole = record {
   out = [];
@@ -46,6 +49,7 @@ lexed-start whole = record {
   inner = refl;
 }
 
+-- after a blank or a comment
 pub lexed-skip : (whole : List ℕ) (list : List Token) (names : List (List ℕ)) (stack : List Bracket) (fresh line : Bool) (rest next : List ℕ) → skip line next ≡ next_move stack rest
     → IsLexed whole list names stack fresh rest → IsLexed whole list names stack (fresh || line) next
 lexed-skip whole list names stack fresh line rest next e h =
@@ -60,10 +64,12 @@ lexed-skip whole list names stack fresh line rest next e h =
       inner = h.inner;
     }
 
+-- the code's token is the defined one
 token_same : (names : List (List ℕ)) (l : Lexeme) (span : Span) (flag : Bool) (t : Lexed) → l ≡ t.lexeme → span.start ≡ t.start → span.end ≡ t.end → flag ≡ t.fresh
     → (let u : Token = record { kind = kind_of names l; span = span; fresh = flag } in u) ≡ token_of names t
 token_same names l span flag t lexeme start end fresh = rw (lexeme, ← start, ← end, fresh) refl
 
+-- after a token
 pub lexed-take : (whole : List ℕ) (list more : List Token) (names table : List (List ℕ)) (stack : List Bracket) (fresh flag : Bool) (rest next : List ℕ) (l : Lexeme) (span : Span)
     → take l next ≡ next_move stack rest → IsLexed whole list names stack fresh rest
     → span.start ≡ place whole rest → span.end ≡ place whole next → flag ≡ (fresh && counts_lines stack)
@@ -89,6 +95,7 @@ lexed-take whole list more names table stack fresh flag rest next l span e h sta
       inner = subst (λ us. list_all is_inner us ≡ true) (sym pushed) (inner-push list u names l h.inner refl is_inner_token);
     }
 
+-- at the end of the file
 pub lexed-stop : (whole : List ℕ) (list : List Token) (names : List (List ℕ)) (stack : List Bracket) (fresh flag : Bool) (rest : List ℕ) (span : Span) (t : Tokens)
     → stop ≡ next_move stack rest → open_quote stack ≡ None → IsLexed whole list names stack fresh rest
     → span.start ≡ place whole rest → span.end ≡ place whole rest → flag ≡ (fresh && counts_lines stack)

@@ -16,3 +16,4 @@ pub mod InnerTokens
 pub mod Lexing
 pub mod MoveFacts
 pub mod LayoutLaw
+pub mod CharacterPlaces

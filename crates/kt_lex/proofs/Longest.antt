@@ -50,6 +50,7 @@ pub record IsLongest (f : List ℕ → List ℕ → Option Lexeme) (text : List 
   pub token : f (take m text) (drop m text) ≡ Some l
   pub longer : (k : ℕ) → m < k → k ≤ n → f (take k text) (drop k text) ≡ None
 
+-- one more character tried
 longest_from-step : (f : List ℕ → List ℕ → Option Lexeme) (n : ℕ) (text : List ℕ) (l : Lexeme) (m : ℕ) (o : Option Lexeme) → f (take (suc n) text) (drop (suc n) text) ≡ o
     → (longest_from f n text ≡ Some (l, m) → IsLongest f text n l m) → or_shorter o (suc n) (longest_from f n text) ≡ Some (l, m) → IsLongest f text (suc n) l m
 longest_from-step f n text l m None e below h =
@@ -75,11 +76,13 @@ longest_from-step f n text l m (Some a) e below h =
       longer = λ k lo hi. absurd (omega arith);
     })
 
+-- the longest of the fronts tried
 longest_from-is : (f : List ℕ → List ℕ → Option Lexeme) (n : ℕ) (text : List ℕ) (l : Lexeme) (m : ℕ) → longest_from f n text ≡ Some (l, m) → IsLongest f text n l m
 longest_from-is f zero text l m e = absurd (cc)
 longest_from-is f (suc n) text l m e =
     longest_from-step f n text l m (f (take (suc n) text) (drop (suc n) text)) refl (λ h. longest_from-is f n text l m h) e
 
+-- the longest of all fronts
 pub longest-is : (f : List ℕ → List ℕ → Option Lexeme) (text : List ℕ) (l : Lexeme) (m : ℕ) → longest f text ≡ Some (l, m) → IsLongest f text (length text) l m
 unfolding longest
 longest-is f text l m e = longest_from-is f (length text) text l m e
@@ -92,6 +95,7 @@ pub record TakesLongest (f : List ℕ → List ℕ → Option Lexeme) (text : Li
   pub token : f word after ≡ Some l
   pub longer : (n : ℕ) → length word < n → n ≤ length text → f (take n text) (drop n text) ≡ None
 
+-- the longest front with its characters and what follows them
 takes_longest : (f : List ℕ → List ℕ → Option Lexeme) (text : List ℕ) (l : Lexeme) (after : List ℕ) (o : Option (Lexeme × ℕ)) → longest f text ≡ o → TokenAt text o ≡ Some (l, after)
     → TakesLongest f text l after
 takes_longest f text l after None e h = absurd (cc)
@@ -109,5 +113,6 @@ takes_longest f text l after (Some (a, m)) e h =
       longer = λ n lo hi. is.longer n (omega (arith, len)) hi;
     }
 
+-- what the longest token at the front is
 pub token_at-is : (f : List ℕ → List ℕ → Option Lexeme) (text : List ℕ) (l : Lexeme) (after : List ℕ) → token_at f text ≡ Some (l, after) → TakesLongest f text l after
 token_at-is f text l after e = takes_longest f text l after (longest f text) refl e

@@ -13,6 +13,7 @@ use Rattle.kt_tree.specs.Text.{first, after_first, after_run}
 use Rattle.kt_tree.specs.Words.{lexeme}
 use Rattle.kt_lex.proofs.Longest.{TakesLongest, token_at-is}
 
+-- blanks after blanks
 pub Blank-trans : {a b c : List ℕ} {l m : Bool} → Blank a l b → Blank b m c → Blank a (l || m) c
 Blank-trans here r = r
 Blank-trans (space s b) r = space s (Blank-trans b r)
@@ -28,6 +29,7 @@ MoveIs within cs stop = cs ≡ []
 MoveIs within cs unclosed = Unit {0}
 MoveIs within cs bad = Unit {0}
 
+-- a token is the longest
 word_is : (within : Bool) (cs : List ℕ) (o : Option (Lexeme × List ℕ)) → token_at (lexeme_in within) cs ≡ o → MoveIs within cs (take_or bad o)
 word_is within cs None e = tt
 word_is within cs (Some p) e = token_at-is (lexeme_in within) cs p.0 p.1 e
@@ -38,6 +40,7 @@ after_slash cs =
     let next : prefix_len is_in_line (47 ∷ cs) ≡ suc (prefix_len is_in_line cs) = omega arith in
     ap (λ n. drop n (47 ∷ cs)) next
 
+-- a comment to the line's end is blank
 line_is : (c : ℕ) (cs : List ℕ) → (c == 47) ≡ true → (first cs == 47) ≡ true → Blank (c ∷ cs) false (after_run is_in_line cs)
 line_is c [] h k = absurd (false≢true k)
 line_is c (d ∷ cs) h k =
@@ -45,6 +48,7 @@ line_is c (d ∷ cs) h k =
     subst (λ a. Blank (a ∷ d ∷ cs) false (after_run is_in_line (d ∷ cs))) (sym (eqb-true c 47 h))
     (subst (λ b. Blank (47 ∷ b ∷ cs) false (after_run is_in_line (b ∷ cs))) (sym (eqb-true d 47 k)) here_is)
 
+-- a comment that has an end is blank
 comment_is : (c : ℕ) (cs : List ℕ) (o : Option (List ℕ)) → (c == 47) ≡ true → (first cs == 42) ≡ true → comment_end 0 (after_first cs) ≡ o → MoveIs false (c ∷ cs) (skip_comment o)
 comment_is c cs None h k e = tt
 comment_is c [] (Some ds) h k e = absurd (false≢true k)
@@ -52,6 +56,7 @@ comment_is c (d ∷ cs) (Some ds) h k e =
     let here_is : Blank (47 ∷ 42 ∷ cs) false ds = comment e here in
     (refl, subst (λ a. Blank (a ∷ d ∷ cs) false ds) (sym (eqb-true c 47 h)) (subst (λ b. Blank (47 ∷ b ∷ cs) false ds) (sym (eqb-true d 42 k)) here_is))
 
+-- the moves outside strings
 front_is : (cs : List ℕ) → MoveIs false cs (front_move cs)
 unfolding front_move
 front_is [] = refl
@@ -73,6 +78,7 @@ front_is (c ∷ cs) =
           ]
     ]
 
+-- the moves within a string
 string_is : (cs : List ℕ) → MoveIs true cs (string_move cs)
 unfolding string_move
 string_is [] = tt
@@ -82,9 +88,11 @@ string_is (c ∷ cs) =
       | inr inside ↦ rw inside (word_is true (c ∷ cs) (token_at string_lexeme (c ∷ cs)) refl)
     ]
 
+-- the moves, by whether a string is open
 move_is : (stack : List Bracket) (cs : List ℕ) (b : Bool) → in_string stack ≡ b → MoveIs b cs (next_move stack cs)
 move_is stack cs true e = rw e (string_is cs)
 move_is stack cs false e = rw e (front_is cs)
 
+-- what each move is of the text
 pub next_move-is : (stack : List Bracket) (cs : List ℕ) → MoveIs (in_string stack) cs (next_move stack cs)
 next_move-is stack cs = move_is stack cs (in_string stack) refl

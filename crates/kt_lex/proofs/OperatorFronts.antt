@@ -44,6 +44,7 @@ shape text rest n (Some k) shorter other e h =
       | inr miss ↦ rw miss (ap (λ t. Some (fixed k, t)) e)
     ]
 
+-- an operator of n characters, or else none
 last_shape : (text rest : List ℕ) (n : ℕ) (k : Option Kind) → drop n text ≡ rest
     → TokenAt text (or_shorter (operator_before k rest) n None) ≡ AsToken (operator_with rest k)
 last_shape text rest n None e = refl
@@ -62,6 +63,7 @@ past_three c d e cs (suc m) b n lo hi =
     let none : operator_of (c ∷ take m (d ∷ e ∷ cs)) ≡ None = operator_of-long (take (suc m) (c ∷ d ∷ e ∷ cs)) (omega (arith, len)) in
     rw (b, n, none) refl
 
+-- where no name and no digit stands the longest token is what the code reads
 pub token_at-operator : (text : List ℕ) → begins_name (first text) ≡ false → is_digit (first text) ≡ false → token_at lexeme text ≡ operator_at text
 unfolding longest operator_at
 token_at-operator [] b n = refl

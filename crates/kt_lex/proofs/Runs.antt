@@ -22,6 +22,7 @@ run-append p (x ∷ xs) ys all stop =
     let next : 1 + prefix_len p (xs ++ ys) ≡ suc (prefix_len p (xs ++ ys)) = omega arith in
     rw (parts.0, next) (ap (λ t. x ∷ t) more.0, more.1)
 
+-- one more character that passes
 pub list_all-push : (p : ℕ → Bool) (xs : List ℕ) (y : ℕ) → list_all p xs ≡ true → p y ≡ true → list_all p (xs ++ y ∷ []) ≡ true
 list_all-push p [] y all hit = rw hit
 list_all-push p (x ∷ xs) y all hit =

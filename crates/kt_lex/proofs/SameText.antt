@@ -11,6 +11,7 @@ use Rattle.std.specs.Str.{chars, IsUtf8, IsAscii}
 use lib.Utf8.{encodes}
 use Rattle.kt_tree.specs.Lexemes.{same, find}
 
+-- what the test of two texts says
 pub same-true : (a b : List ℕ) → same a b ≡ true → a ≡ b
 same-true [] [] e = refl
 same-true [] (d ∷ b) e = absurd (cc)
@@ -21,13 +22,16 @@ same-true (c ∷ a) (d ∷ b) e =
     let tail = same-true a b parts.1 in
     cc
 
+-- a text is the same as itself
 pub same-refl : (a : List ℕ) → same a a ≡ true
 same-refl [] = refl
 same-refl (c ∷ a) = and_from (c == c) (same a a) (eq-eqb c c refl) (same-refl a)
 
+-- all characters are ASCII
 abbrev pub are_ascii : List ℕ → Bool
 are_ascii k = list_all (λ c. nat_lt c 128) k
 
+-- what that test says
 pub IsAscii-from_test : (k : List ℕ) → are_ascii k ≡ true → IsAscii k
 IsAscii-from_test [] h = IsAscii-nil
 IsAscii-from_test (c ∷ k) h =
@@ -51,12 +55,14 @@ same-chars k b utf8 ascii =
           ]
     ]
 
+-- a table of ASCII texts finds bytes as it finds characters
 pub find-chars : (rows : List (List ℕ × Kind)) (b : List ℕ) → IsUtf8 b → list_all (λ row. are_ascii row.0) rows ≡ true → find rows b ≡ find rows (chars b)
 find-chars [] b utf8 ascii = refl
 find-chars (row ∷ rows) b utf8 ascii =
     let parts = and_parts (are_ascii row.0) (list_all (λ r. are_ascii r.0) rows) ascii in
     rw (same-chars row.0 b utf8 (IsAscii-from_test row.0 parts.0), find-chars rows b utf8 parts.1)
 
+-- the test of two texts is that of the bytes
 bytes_eq-same : (a b : List ℕ) → bytes_eq a b ≡ same a b
 bytes_eq-same [] [] = refl
 bytes_eq-same [] (d ∷ b) = refl
@@ -67,6 +73,7 @@ bytes_eq-same (c ∷ a) (d ∷ b) = ap (λ t. (c == d) && t) (bytes_eq-same a b)
 unfoldable pub kinds : {V : Type 0} → (V → Kind) → List (List ℕ × V) → List (List ℕ × Kind)
 kinds kind_of rows = map (λ row. (row.0, kind_of row.1)) rows
 
+-- a table finds the token of the value that it finds
 pub find-kinds : {V : Type 0} (kind_of : V → Kind) (rows : List (List ℕ × V)) (b : List ℕ) → option_map kind_of (lookup (λ key. bytes_eq key b) rows) ≡ find (kinds kind_of rows) b
 unfolding kinds
 find-kinds kind_of [] b = refl

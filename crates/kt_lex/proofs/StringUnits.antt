@@ -18,9 +18,11 @@ pub record IsUnit (cs : List ℕ) (c : ℕ) (rest : List ℕ) : Type 0 where
   pub some : 0 < length word
   pub value : (f after : List ℕ) → f ++ after ≡ rest → text_value (word ++ f) after ≡ cons_some (Some c) (text_value f after)
 
+-- the parts of two pairs that are one
 unit_pair : (a c : ℕ) (bs cs : List ℕ) → ◌≡◌ {A = Option (ℕ × List ℕ)} (Some (a, bs)) (Some (c, cs)) → (a ≡ c) × (bs ≡ cs)
 unit_pair a c bs cs e = let same : ◌≡◌ {A = ℕ × List ℕ} (a, bs) (c, cs) = cc in (ap (λ (p : ℕ × List ℕ). p.0) same, ap (λ (p : ℕ × List ℕ). p.1) same)
 
+-- an escape of four digits is a unit
 unicode-is : (cs : List ℕ) (c : ℕ) (rest : List ℕ) (b u : ℕ) → (b == 92) ≡ true → (u == 117) ≡ true → ◌≡◌ {A = Option (ℕ × List ℕ)} (unicode cs) (Some (c, rest)) → IsUnit (b ∷ u ∷ cs) c rest
 unicode-is [] c rest b u hb hu e = absurd (cc)
 unicode-is (x ∷ []) c rest b u hb hu e = absurd (cc)
@@ -40,6 +42,7 @@ unicode-is (x ∷ y ∷ z ∷ w ∷ cs) c rest b u hb hu e =
       | inr miss ↦ let nothing : ◌≡◌ {A = Option (ℕ × List ℕ)} None (Some (c, rest)) = rw miss at e in absurd (cc)
     ]
 
+-- any other escape is a unit
 simple-is : (o : Option ℕ) (d : ℕ) (cs : List ℕ) (c : ℕ) (rest : List ℕ) (b : ℕ) → simple_escape d ≡ o → (b == 92) ≡ true → (d == 117) ≡ false → ◌≡◌ {A = Option (ℕ × List ℕ)} (with_rest cs o) (Some (c, rest))
     → IsUnit (b ∷ d ∷ cs) c rest
 simple-is None d cs c rest b s hb hd e = absurd (cc)
@@ -52,6 +55,7 @@ simple-is (Some a) d cs c rest b s hb hd e =
       value = λ f after_f same. rw (hb, hd, s) (ap (λ v. cons_some (Some v) (text_value f after_f)) char);
     }
 
+-- an escape is a unit
 escape-is : (cs : List ℕ) (c : ℕ) (rest : List ℕ) (b : ℕ) → (b == 92) ≡ true → ◌≡◌ {A = Option (ℕ × List ℕ)} (escape cs) (Some (c, rest)) → IsUnit (b ∷ cs) c rest
 escape-is [] c rest b hb e = absurd (cc)
 escape-is (d ∷ cs) c rest b hb e =
@@ -60,6 +64,7 @@ escape-is (d ∷ cs) c rest b hb e =
       | inr miss ↦ simple-is (simple_escape d) d cs c rest b refl hb miss (rw miss at e)
     ]
 
+-- what the code reads is a unit
 pub unit-is : (cs : List ℕ) (c : ℕ) (rest : List ℕ) → ◌≡◌ {A = Option (ℕ × List ℕ)} (unit cs) (Some (c, rest)) → IsUnit cs c rest
 unit-is [] c rest e = absurd (cc)
 unit-is (b ∷ cs) c rest e =
@@ -82,6 +87,7 @@ unit-is (b ∷ cs) c rest e =
           ]
     ]
 
+-- what is no escape of four digits is no text
 unicode-none : (f after : List ℕ) → unicode (f ++ after) ≡ None → unicode_value f after ≡ None
 unicode-none [] after e = refl
 unicode-none (x ∷ []) after e = refl
@@ -93,10 +99,12 @@ unicode-none (x ∷ y ∷ z ∷ w ∷ f) after e =
       | inr miss ↦ rw miss refl
     ]
 
+-- an escape that stands for nothing is no text
 simple-none : (o : Option ℕ) (cs : List ℕ) (v : Option (List ℕ)) → with_rest cs o ≡ None → cons_some o v ≡ None
 simple-none None cs v e = refl
 simple-none (Some a) cs v e = absurd (cc)
 
+-- what is no escape is no text
 escape-none : (f after : List ℕ) → escape (f ++ after) ≡ None → escape_value f after ≡ None
 escape-none [] after e = refl
 escape-none (d ∷ f) after e =
@@ -117,6 +125,7 @@ unit-none b f after e =
           ]
     ]
 
+-- no front of what begins with no unit is a text
 pub no_text : (cs : List ℕ) (m : ℕ) → unit cs ≡ None → 0 < m → m ≤ length cs → text_value (take m cs) (drop m cs) ≡ None
 no_text cs zero e lo hi = absurd (omega arith)
 no_text [] (suc m) e lo hi = absurd (omega arith)
@@ -129,12 +138,14 @@ pub record IsPiece (cs v rest : List ℕ) : Type 0 where
   pub value : text_value front rest ≡ Some v
   pub longer : (m : ℕ) → length front < m → m ≤ length cs → text_value (take m cs) (drop m cs) ≡ None
 
+-- a longer front has the unit and a longer front of what follows it
 longer_text : (cs ds : List ℕ) (c m k : ℕ) (u : IsUnit cs c ds) → m ≡ length u.word + k → text_value (take k ds) (drop k ds) ≡ None → text_value (take m cs) (drop m cs) ≡ None
 longer_text cs ds c m k u e h =
     let front : take m cs ≡ u.word ++ take k ds = ap₂ take e u.parts ∙ take-append-add u.word ds k in
     let back : drop m cs ≡ drop k ds = ap₂ drop e u.parts ∙ drop-append-add u.word ds k in
     ap₂ text_value front back ∙ u.value (take k ds) (drop k ds) (take-append-drop k ds) ∙ ap (cons_some (Some c)) h
 
+-- all units at the front are the longest text there
 pub units-piece : {cs v rest : List ℕ} → AreUnits cs v rest → unit rest ≡ None → IsPiece cs v rest
 units-piece {cs = cs} none stop = record { front = []; parts = refl; value = refl; longer = λ m lo hi. no_text cs m stop (omega arith) hi }
 units-piece {cs = cs} {rest = es} (more {ds = ds} {v = v} {c = c} e r) stop =

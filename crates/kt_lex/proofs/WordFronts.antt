@@ -28,6 +28,7 @@ strip_text-some (d ∷ ds) (c ∷ cs) rest e =
       | inr miss ↦ let none : None ≡ Some rest = rw miss at e in absurd (cc)
     ]
 
+-- a text strips from the front of itself and more
 pub strip_text-append : (front rest : List ℕ) → strip_text front (front ++ rest) ≡ Some rest
 strip_text-append [] rest = refl
 strip_text-append (d ∷ ds) rest = rw (eq-eqb d d refl) (strip_text-append ds rest)
@@ -45,6 +46,7 @@ strip_text-none n front text e =
 
 -- `as?`
 
+-- no longer front than `as?` is a token
 longer_safe : (cs : List ℕ) (m : ℕ) → begins_name 97 ≡ true → continues_name 115 ≡ true → continues_name 63 ≡ false → 3 < m → m ≤ length (97 ∷ 115 ∷ 63 ∷ cs)
     → lexeme (take m (97 ∷ 115 ∷ 63 ∷ cs)) (drop m (97 ∷ 115 ∷ 63 ∷ cs)) ≡ None
 longer_safe cs zero a s mark lo hi = absurd (omega arith)
@@ -54,6 +56,7 @@ longer_safe cs (suc (suc (suc zero))) a s mark lo hi = absurd (omega arith)
 longer_safe [] (suc (suc (suc (suc m)))) a s mark lo hi = absurd (omega arith)
 longer_safe (c ∷ cs) (suc (suc (suc (suc m)))) a s mark lo hi = rw (a, s, mark) refl
 
+-- `as?` is the longest front
 longest-as_safe : (cs : List ℕ) → longest lexeme (97 ∷ 115 ∷ 63 ∷ cs) ≡ Some (fixed AsSafe, 3)
 longest-as_safe cs =
     let a : begins_name 97 ≡ true = begins_name-ascii 97 (lit< tt) in
@@ -63,6 +66,7 @@ longest-as_safe cs =
     (rw (a, s, mark) refl)
     (λ m lo hi. longer_safe cs m a s mark lo hi)
 
+-- where the code strips `as?` that is the longest token
 pub token_at-as_safe : (text rest : List ℕ) → strip_text (codes "as?") text ≡ Some rest → token_at lexeme text ≡ Some (fixed AsSafe, rest)
 token_at-as_safe text rest e =
     ap (token_at lexeme) (strip_text-some (codes "as?") text rest e) ∙ ap (TokenAt (97 ∷ 115 ∷ 63 ∷ rest)) (longest-as_safe rest)
@@ -84,11 +88,13 @@ shorter_label cs k h =
 longer_label : (cs : List ℕ) (k : ℕ) → prefix_len continues_name cs < k → k ≤ length cs → is_label (take k cs) (drop k cs) ≡ false
 longer_label cs k lo hi = rw (is_word-past cs k lo hi) refl
 
+-- a keyword is no label
 keyword_label : (cs : List ℕ) → is_some (keyword_of (run continues_name cs)) ≡ true → is_label (run continues_name cs) (after_run continues_name cs) ≡ false
 keyword_label cs hit =
     and_left (is_word (run continues_name cs) && not (is_some (keyword_of (run continues_name cs)))) (not (continues_name (first (after_run continues_name cs))))
     (and_right (is_word (run continues_name cs)) (not (is_some (keyword_of (run continues_name cs)))) (ap not hit))
 
+-- no front of a keyword and more is a label
 other_label : (cs : List ℕ) (k : ℕ) → is_some (keyword_of (run continues_name cs)) ≡ true → k ≤ length cs → is_label (take k cs) (drop k cs) ≡ false
 other_label cs k hit within =
     elim (cases_order k (prefix_len continues_name cs)) [
@@ -111,6 +117,7 @@ no_label cs k none within =
           ]
     ]
 
+-- the same of a front and what follows it
 no_label_before : (w after : List ℕ) → label_in (w ++ after) ≡ None → is_label w after ≡ false
 no_label_before w after none =
     let within : length w ≤ length (w ++ after) = omega (arith, length-append w after) in
@@ -119,6 +126,7 @@ no_label_before w after none =
 
 -- `return@` with a name
 
+-- no longer front than `return@` with its name is a token
 longer_return_at : (cs : List ℕ) (m : ℕ) → continues_name 64 ≡ false
     → suc (suc (suc (suc (suc (suc (suc (prefix_len continues_name cs))))))) < m → m ≤ length (114 ∷ 101 ∷ 116 ∷ 117 ∷ 114 ∷ 110 ∷ 64 ∷ cs)
     → begins_name 114 ≡ true
@@ -134,6 +142,7 @@ longer_return_at cs (suc (suc (suc (suc (suc (suc (suc m))))))) mark lo hi b =
     let none = longer_label cs m (omega arith) (omega arith) in
     rw (b, continues_name-ascii 101 (lit< tt), continues_name-ascii 116 (lit< tt), continues_name-ascii 117 (lit< tt), continues_name-ascii 114 (lit< tt), continues_name-ascii 110 (lit< tt), mark, none) refl
 
+-- `return@` with its name is the longest front
 longest-return_at : (cs : List ℕ) → begins_name (first cs) ≡ true → is_some (keyword_of (run continues_name cs)) ≡ false
     → longest lexeme (114 ∷ 101 ∷ 116 ∷ 117 ∷ 114 ∷ 110 ∷ 64 ∷ cs) ≡ Some (return_at (run continues_name cs), suc (suc (suc (suc (suc (suc (suc (prefix_len continues_name cs))))))))
 longest-return_at cs begins name =
@@ -146,6 +155,7 @@ longest-return_at cs begins name =
     (rw (b, continues_name-ascii 101 (lit< tt), continues_name-ascii 116 (lit< tt), continues_name-ascii 117 (lit< tt), continues_name-ascii 114 (lit< tt), continues_name-ascii 110 (lit< tt), mark, word, name, end) refl)
     (λ m lo hi. longer_return_at cs m mark lo hi b)
 
+-- what the code finds as a label
 label_in-some : (cs : List ℕ) (p : List ℕ × List ℕ) → label_in cs ≡ Some p
     → (begins_name (first cs) ≡ true) × (is_some (keyword_of (run continues_name cs)) ≡ false) × (p ≡ (run continues_name cs, after_run continues_name cs))
 label_in-some cs p e =
@@ -158,6 +168,7 @@ label_in-some cs p e =
       | inr other ↦ let none : None ≡ Some p = rw other at e in absurd (cc)
     ]
 
+-- `return@` with its name is the longest token
 token_at-return_at : (cs : List ℕ) (p : List ℕ × List ℕ) → label_in cs ≡ Some p → token_at lexeme (codes "return@" ++ cs) ≡ Some (return_at p.0, p.1)
 token_at-return_at cs p e =
     let (begins, name, same_pair) = label_in-some cs p e in
@@ -165,16 +176,19 @@ token_at-return_at cs p e =
     ap (TokenAt (114 ∷ 101 ∷ 116 ∷ 117 ∷ 114 ∷ 110 ∷ 64 ∷ cs)) (longest-return_at cs begins name) in
     here ∙ ap (λ (q : List ℕ × List ℕ). Some (return_at q.0, q.1)) (sym same_pair)
 
+-- the same where `return@` is stripped
 label_of : (text : List ℕ) (o : Option (List ℕ)) (p : List ℕ × List ℕ) → strip_text (codes "return@") text ≡ o → option_and_then label_in o ≡ Some p
     → token_at lexeme text ≡ Some (return_at p.0, p.1)
 label_of text None p e h = absurd (cc)
 label_of text (Some cs) p e h = ap (token_at lexeme) (strip_text-some (codes "return@") text cs e) ∙ token_at-return_at cs p h
 
+-- where the code finds a label that is the longest token
 pub token_at-label : (text : List ℕ) (p : List ℕ × List ℕ) → label_at text ≡ Some p → token_at lexeme text ≡ Some (return_at p.0, p.1)
 token_at-label text p e = label_of text (strip_text (codes "return@") text) p refl e
 
 -- identifiers and keywords
 
+-- where it finds none no front is `return@` with a name
 no_return_at : (text : List ℕ) (m : ℕ) → label_at text ≡ None
     → (same (take 7 (take m text)) (codes "return@") && is_label (drop 7 (take m text)) (drop m text)) ≡ false
 no_return_at text m none =
@@ -190,6 +204,7 @@ no_return_at text m none =
       | inr miss ↦ and_left (same (take 7 (take m text)) (codes "return@")) (is_label (drop 7 (take m text)) (drop m text)) miss
     ]
 
+-- no longer front than the run is a token
 longer_word : (c : ℕ) (cs : List ℕ) (m : ℕ) → begins_name c ≡ true → strip_text (codes "as?") (c ∷ cs) ≡ None → label_at (c ∷ cs) ≡ None
     → suc (prefix_len continues_name cs) < m → m ≤ suc (length cs) → lexeme (take m (c ∷ cs)) (drop m (c ∷ cs)) ≡ None
 longer_word c cs zero begins safe label lo hi = absurd (omega arith)
@@ -199,6 +214,7 @@ longer_word c cs (suc m) begins safe label lo hi =
     let no_return : (same (take 7 (c ∷ take m cs)) (codes "return@") && is_label (drop 7 (c ∷ take m cs)) (drop m cs)) ≡ false = no_return_at (c ∷ cs) (suc m) label in
     rw (begins, no_word, no_safe, no_return) refl
 
+-- the run is the longest front
 longest-word : (c : ℕ) (cs : List ℕ) → begins_name c ≡ true → strip_text (codes "as?") (c ∷ cs) ≡ None → label_at (c ∷ cs) ≡ None
     → let n = suc (prefix_len continues_name cs) in
     longest lexeme (c ∷ cs) ≡ Some (keyword_or_name (keyword_of (take n (c ∷ cs))) (take n (c ∷ cs)), n)
@@ -209,6 +225,7 @@ longest-word c cs begins safe label =
     (rw (begins, list_all-run continues_name cs) refl)
     (λ m lo hi. longer_word c cs m begins safe label lo hi)
 
+-- where the code finds neither the run is the longest token
 pub token_at-word : (text : List ℕ) → begins_name (first text) ≡ true → strip_text (codes "as?") text ≡ None → label_at text ≡ None
     → token_at lexeme text ≡ Some (keyword_or_name (keyword_of (run continues_name text)) (run continues_name text), after_run continues_name text)
 token_at-word [] begins safe label =

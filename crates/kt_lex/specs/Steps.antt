@@ -63,6 +63,7 @@ operator_with rest (Some kind) = if is_word_operator kind && continues_name (fir
 abbrev pub operator_of_front : ℕ → List ℕ → Option (Kind × List ℕ)
 operator_of_front n text = option_and_then (λ p. operator_with p.1 (operator_of p.0)) (split_after n text)
 
+-- one, or else the other
 abbrev pub or_else : Option (Kind × List ℕ) → Option (Kind × List ℕ) → Option (Kind × List ℕ)
 or_else (Some p) other = Some p
 or_else None other = other

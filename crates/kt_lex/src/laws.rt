@@ -1,7 +1,8 @@
 //! What holds of the tokens of every text, in the subject's own words. Each law is the contract of a function that
 //! does nothing.
 ghost use Rattle.std.specs.Prelude.{◌≡◌, ℕ, List, [], ◌⊎◌};
-ghost use Rattle.kt_tree.specs.Layout.{Lies, Rise};
+ghost use Rattle.std.specs.Str.{chars, IsUtf8, IsCharBoundary};
+ghost use Rattle.kt_tree.specs.Layout.{AtCharacters, Lies, Rise};
 ghost use Rattle.kt_tree.specs.Text.{without_mark};
 ghost use Rattle.kt_tree.specs.Tokens.{Lexed, AreTokens, IsBadPlace};
 
@@ -20,3 +21,11 @@ pub fn tokens_are_determined()
     ensures one_end { (text : List ℕ) (a b c d : ℕ) → IsBadPlace text a b → IsBadPlace text c d → b ≡ d }
     ensures not_both { (text : List ℕ) (ts : List Lexed) (start end : ℕ) → AreTokens text ts → IsBadPlace text start end → ⊥ }
 {}
+
+/// The spans of tokens and of bad places begin and end at characters of the text, or at its end.
+pub fn spans_are_at_characters()
+    ensures tokens { (text : List ℕ) (ts : List Lexed) → IsUtf8 text → AreTokens (chars text) ts → AtCharacters text ts }
+    ensures start { (text : List ℕ) (a b : ℕ) → IsUtf8 text → IsBadPlace (chars text) a b → IsCharBoundary text a }
+    ensures end { (text : List ℕ) (a b : ℕ) → IsUtf8 text → IsBadPlace (chars text) a b → IsCharBoundary text b }
+{
+}

@@ -12,6 +12,7 @@ pub data Bracket : Type 0 where
   part : Bracket
   quote : ℕ → ℕ → Bracket
 
+-- the innermost bracket
 abbrev pub innermost : List Bracket → Option Bracket
 innermost stack = slice_get stack (length stack - 1)
 
@@ -45,6 +46,7 @@ counts (Some round) = false
 counts (Some square) = false
 counts b = true
 
+-- a line end counts here
 abbrev pub counts_lines : List Bracket → Bool
 counts_lines stack = counts (innermost stack)
 
@@ -53,6 +55,7 @@ abbrev pub is_quote : Option Bracket → Bool
 is_quote (Some (quote start end)) = true
 is_quote b = false
 
+-- the innermost open bracket is a quote
 abbrev pub in_string : List Bracket → Bool
 in_string stack = is_quote (innermost stack)
 

@@ -2,6 +2,7 @@
 use Rattle.std.specs.Prelude.{ℕ, List, [], ◌∷◌, codes}
 use Rattle.kt_tree.specs.Names.{with_text}
 
+-- the built-in names in their order
 abbrev pub built_in : List (List ℕ)
 built_in =
     codes "Any" ∷ codes "Unit" ∷ codes "Boolean" ∷ codes "Int" ∷ codes "String" ∷ codes "Throwable" ∷ codes "Exception"

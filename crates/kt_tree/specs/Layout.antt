@@ -9,6 +9,7 @@ use Rattle.kt_tree.specs.Strings.{string_lexeme}
 use Rattle.kt_tree.specs.Text.{place, after_run, width}
 use Rattle.kt_tree.specs.Tokens.{Lexed}
 use Rattle.kt_tree.specs.Words.{lexeme}
+use Rattle.std.specs.Str.{IsCharBoundary}
 
 -- Blanks, line ends and comments lead from the first text to the second, which is its end; the flag says that a line end outside `/* */` is among them.
 pub data Blank : List ℕ → Bool → List ℕ → Type 0 where
@@ -57,3 +58,8 @@ pub data Lies (whole : List ℕ) : List Bracket → List ℕ → List Lexed → 
 abbrev pub Rise : ℕ → List Lexed → Type 0
 Rise at [] = Unit {0}
 Rise at (t ∷ ts) = (at ≤ t.start) × (t.start ≤ t.end) × Rise t.end ts
+
+-- the spans begin and end at characters of the text, or at its end
+abbrev pub AtCharacters : List ℕ → List Lexed → Type 0
+AtCharacters text [] = Unit {0}
+AtCharacters text (t ∷ ts) = IsCharBoundary text t.start × IsCharBoundary text t.end × AtCharacters text ts

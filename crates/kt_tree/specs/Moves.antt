@@ -8,6 +8,7 @@ use Rattle.kt_tree.specs.Strings.{string_lexeme}
 use Rattle.kt_tree.specs.Text.{first, after_first, after_run}
 use Rattle.kt_tree.specs.Words.{lexeme}
 
+-- the character ends no line
 abbrev pub is_in_line : ℕ → Bool
 is_in_line c = not (is_line_end c)
 
@@ -57,5 +58,6 @@ unfoldable pub string_move : List ℕ → Move
 string_move [] = unclosed
 string_move (c ∷ cs) = if is_line_end c then unclosed else take_or bad (token_at string_lexeme (c ∷ cs))
 
+-- what stands at the front, where these brackets are open
 abbrev pub next_move : List Bracket → List ℕ → Move
 next_move stack text = if in_string stack then string_move text else front_move text

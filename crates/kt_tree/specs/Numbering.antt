@@ -17,6 +17,7 @@ with_name texts (return_at word) = with_text texts (encode_utf8_all word)
 with_name texts (name_part word) = with_text texts (encode_utf8_all word)
 with_name texts l = texts
 
+-- the texts of the names, with those of the tokens
 abbrev pub names_after : List (List ℕ) → List Lexed → List (List ℕ)
 names_after texts [] = texts
 names_after texts (t ∷ ts) = names_after (with_name texts t.lexeme) ts
@@ -30,9 +31,11 @@ kind_of texts (number n) = Int n
 kind_of texts (piece value) = Text (encode_utf8_all value)
 kind_of texts (name_part word) = NamePart (place_of texts (encode_utf8_all word))
 
+-- the token with the number of its name
 abbrev pub token_of : List (List ℕ) → Lexed → Token
 token_of texts t = record { kind = kind_of texts t.lexeme; span = record { start = t.start; end = t.end }; fresh = t.fresh }
 
+-- the tokens with the numbers of their names
 abbrev pub numbered : List (List ℕ) → List Lexed → List Token
 numbered texts [] = []
 numbered texts (t ∷ ts) = token_of texts t ∷ numbered (with_name texts t.lexeme) ts

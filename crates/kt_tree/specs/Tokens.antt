@@ -19,11 +19,13 @@ pub data Outcome : Type 0 where
   tokens : List Lexed → Outcome
   bad_at : ℕ → ℕ → Outcome
 
+-- the token, and then these
 abbrev pub with_token : Lexed → Outcome → Outcome
 with_token t unfinished = unfinished
 with_token t (tokens ts) = tokens (t ∷ ts)
 with_token t (bad_at start end) = bad_at start end
 
+-- the token from where the rest begins to where what follows it begins
 abbrev pub lexed : List ℕ → Lexeme → Bool → List ℕ → List ℕ → Lexed
 lexed whole l fresh rest after = record { lexeme = l; start = place whole rest; end = place whole after; fresh = fresh }
 

@@ -41,9 +41,11 @@ abbrev pub operator_before : Option Kind → List ℕ → Option Lexeme
 operator_before None after = None
 operator_before (Some kind) after = if is_word_operator kind && continues_name (first after) then None else Some (fixed kind)
 
+-- an operator
 abbrev pub operator_lexeme : List ℕ → List ℕ → Option Lexeme
 operator_lexeme text after = operator_before (operator_of text) after
 
+-- an integer, where nothing bars it
 abbrev pub integer_lexeme : List ℕ → List ℕ → Option Lexeme
 integer_lexeme text after = if bars_integer after then None else option_map number (integer text)
 

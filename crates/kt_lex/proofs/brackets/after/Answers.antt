@@ -6,6 +6,7 @@ use Rattle.kt_lex.specs.declared.brackets.Bracket.{Bracket}
 use Rattle.kt_lex.specs.Opened.{bracket_of}
 use Rattle.kt_lex.proofs.brackets.after.Goals as goal
 
+-- the innermost bracket of the code's
 innermost-map : (stack : List Bracket) → innermost (map bracket_of stack) ≡ option_map bracket_of (slice_get stack (length stack - 1))
 innermost-map stack = ap (λ n. slice_get (map bracket_of stack) (n - 1)) (length-map stack bracket_of) ∙ slice_get-map bracket_of stack (length stack - 1)
 

@@ -4,6 +4,7 @@ use Rattle.kt_tree.specs.TokenLists.{ends_once}
 use Rattle.kt_lex.proofs.InnerTokens.{ends_once-push}
 use Rattle.kt_lex.proofs.lexer.finish.Goals as goal
 
+-- the length of a list with one more
 length-push : (list : List Token) (t : Token) → length (list ++ t ∷ []) ≡ length list + 1
 length-push list t = length-append list (t ∷ [])
 

@@ -14,15 +14,19 @@ use Rattle.kt_lex.proofs.Rests.{MoveLeaves, next_move-leaves, rest-shorter, rest
 use Rattle.kt_lex.proofs.TokenSteps.{in_front, at_open_end, at_unclosed, at_bad}
 use Rattle.kt_lex.proofs.lexer.scan.Goals as goal
 
+-- what the move leaves
 left_by : (stack : List Bracket) (cs : List ℕ) (m : Move) → m ≡ next_move stack cs → MoveLeaves cs m
 left_by stack cs m e = subst (MoveLeaves cs) (sym e) (next_move-leaves stack cs)
 
+-- a place in bytes
 place_is : (text rest : List ℕ) → IsUtf8 text → IsUtf8 rest → place (chars text) (chars rest) ≡ length text - length rest
 place_is text rest ut ur = ap₂ (λ a b. a - b) (width-chars text ut) (width-chars rest ur)
 
+-- without its first character a text is no longer
 after_first-within : (s t : List ℕ) → IsUtf8 s → IsUtf8 t → chars t ≡ after_first (chars s) → length t ≤ length s
 after_first-within s t us ut e = omega (arith, after_first-narrow (chars s), ap width e, width-chars s us, width-chars t ut)
 
+-- a text has no more characters than bytes
 chars-few : (s : List ℕ) → IsUtf8 s → length (chars s) ≤ length s
 chars-few s utf8 = omega (arith, length-le-encodes (chars s), ap length (encodes-chars s utf8))
 

@@ -4,6 +4,7 @@ use Rattle.std.proofs.lemmas.Str.{IsCharBoundary-at_seam}
 use Rattle.std.specs.Str.{IsCharBoundary}
 use Rattle.kt_lex.proofs.words.front_before.Goals as goal
 
+-- how long the front is
 at_front : (s front rest : List ℕ) → s ≡ front ++ rest → length s - length rest ≡ length front
 at_front s front rest e = omega (arith, ap length e, length-append front rest)
 

@@ -7,6 +7,7 @@ use Rattle.kt_lex.specs.Keywords.{kind_of}
 use Rattle.kt_lex.specs.Steps.{strip_text, label_in, label_at}
 use Rattle.kt_lex.proofs.words.label_at.Goals as goal
 
+-- `return@` is ASCII
 chars-return_at : chars (codes "return@") ≡ codes "return@"
 unfolding chars
 chars-return_at = refl
@@ -15,6 +16,7 @@ chars-return_at = refl
 label_at-some : (text rest : List ℕ) → Some rest ≡ strip_text (chars (codes "return@")) text → label_at text ≡ label_in rest
 label_at-some text rest e = sym (ap (option_and_then label_in) (e ∙ ap (λ r. strip_text r text) chars-return_at))
 
+-- what it finds where `return@` doesn't stand
 label_at-none : (text : List ℕ) → None ≡ strip_text (chars (codes "return@")) text → label_at text ≡ None
 label_at-none text e = sym (ap (option_and_then label_in) (e ∙ ap (λ r. strip_text r text) chars-return_at))
 

@@ -6,10 +6,12 @@ use Rattle.kt_lex.specs.Steps.{strip_text, label_at}
 use Rattle.kt_lex.proofs.WordFronts.{token_at-as_safe, token_at-label, token_at-word}
 use Rattle.kt_lex.proofs.words.word_at.Goals as goal
 
+-- `as?` is ASCII
 chars-as_safe : chars (codes "as?") ≡ codes "as?"
 unfolding chars
 chars-as_safe = refl
 
+-- where the code strips none there is none
 no_safe : (text : List ℕ) → None ≡ strip_text (chars (codes "as?")) text → strip_text (codes "as?") text ≡ None
 no_safe text e = sym (e ∙ ap (λ r. strip_text r text) chars-as_safe)
 
