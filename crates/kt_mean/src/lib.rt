@@ -1,0 +1,5 @@
+//! The written meaning of an accepted program: values, what an evaluation does to a state, and the course of a run. The definitions stand in
+//! specs/; below are the trees and the written rules, above the laws of soundness and the interpreter.
+#![tactic(auto)]
+
+pub mod value;
