@@ -1,5 +1,5 @@
 -- Reading and writing the locals of a frame.
-use Rattle.std.proofs.Common.{◌≡◌, ℕ, zero, suc, Bool, true, false, nat_eq, if◌then◌else◌, List, [], ◌∷◌, Option, Some, None, refl, sym, ap, ◌∙◌, true≢false}
+use Rattle.std.proofs.Common.{◌≡◌, ℕ, zero, suc, Bool, true, false, nat_eq, if◌then◌else◌, List, [], ◌∷◌, Option, refl, sym, ap, ◌∙◌, true≢false}
 use Rattle.std.proofs.lemmas.Bool.{eqb-true, eq-eqb}
 use Rattle.kt_mean.specs.Locals.{get, set}
 use Rattle.kt_mean.specs.declared.value.Value.{Value}
@@ -23,7 +23,7 @@ get-set_other (v ∷ vs) (suc x) (suc y) o h = get-set_other vs x y o (λ e. h (
 -- a local after a write of one
 pub get-set : (vs : List (Option Value)) (x y : ℕ) (o : Option Value) → get (set vs x o) y ≡ (if nat_eq y x then o else get vs y)
 get-set vs x y o = by (nat_eq y x) refl
-    where
-      by : (b : Bool) → nat_eq y x ≡ b → get (set vs x o) y ≡ (if b then o else get vs y)
-      by true e = ap (λ z. get (set vs x o) z) (eqb-true y x e) ∙ get-set_same vs x o
-      by false e = get-set_other vs x y o (λ i. true≢false (sym (eq-eqb y x i) ∙ e))
+  where
+    by : (b : Bool) → nat_eq y x ≡ b → get (set vs x o) y ≡ (if b then o else get vs y)
+    by true e = ap (λ z. get (set vs x o) z) (eqb-true y x e) ∙ get-set_same vs x o
+    by false e = get-set_other vs x y o (λ i. true≢false (sym (eq-eqb y x i) ∙ e))

@@ -3,3 +3,4 @@ pub mod Locals
 pub mod Outcome
 pub mod Meaning
 pub mod Run
+pub mod Laws

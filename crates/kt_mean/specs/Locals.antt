@@ -1,5 +1,5 @@
 -- The locals of a frame, by their numbers: a value or nothing each. Past the end of the list a local holds nothing.
-use Rattle.std.specs.Prelude.{ℕ, zero, suc, List, [], ◌∷◌, Option, Some, None}
+use Rattle.std.specs.Prelude.{ℕ, zero, suc, List, [], ◌∷◌, Option, None}
 use Rattle.kt_mean.specs.declared.value.Value.{Value}
 
 abbrev pub get : List (Option Value) → ℕ → Option Value

@@ -3,12 +3,12 @@
 -- From the Kotlin specification, "Statements" and "Expressions"; that each entering of a tree costs one step is this project's own. One definition for
 -- each kind of tree; only `eval` recurses, on a number that bounds how deep trees are entered in one another. A wrong use is the read of a
 -- local that holds nothing, the assignment of a `val` that holds a value, and the entering of a dead tree.
-use Rattle.std.specs.Prelude.{ℕ, zero, suc, ◌+◌, ◌-◌, ◌==◌, Bool, true, false, Option, Some, None, List, [], ◌∷◌, ◌++◌, codes, if◌then◌else◌}
+use Rattle.std.specs.Prelude.{ℕ, zero, suc, ◌-◌, ◌==◌, Bool, true, false, Option, Some, None, List, [], ◌∷◌, ◌++◌, codes, if◌then◌else◌}
 use Rattle.std.specs.Fmt.{signed_decimal}
 use Rattle.kt_model.specs.Trees.{Tree, Int', Name', Declare', Local', Assign', Println', number}
-use Rattle.kt_mean.specs.Events.{Event, Printed}
+use Rattle.kt_mean.specs.Events.{Printed}
 use Rattle.kt_mean.specs.Locals.{get, set}
-use Rattle.kt_mean.specs.Outcome.{Frame, State, Ending, Gave, Over, Outcome, Run, ◌>>=◌, pure, over, wrong}
+use Rattle.kt_mean.specs.Outcome.{State, Gave, Run, ◌>>=◌, pure, over, wrong}
 use Rattle.kt_mean.specs.declared.value.Value.{Value}
 use Rattle.kt_mean.specs.declared.value.Value.TheVariants as value
 use Rattle.kt_mean.specs.declared.value.Limit.TheVariants as limit
@@ -90,3 +90,7 @@ entered p go t = spend >>= (λ u. choose (p.dead (number t)) wrong (tree_at go t
 unfoldable pub eval : Program → ℕ → Tree → Run Value
 eval p zero t = over limit.Steps
 eval p (suc depth) t = entered p (eval p depth) t
+
+-- the meaning of a tree, which the steps left bound
+unfoldable pub meaning : Program → Tree → Run Value
+meaning p t = λ s. eval p s.steps t s

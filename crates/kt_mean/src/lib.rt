@@ -2,4 +2,8 @@
 //! specs/; below are the trees and the written rules, above the laws of soundness and the interpreter.
 #![tactic(auto)]
 
-pub mod value;
+mod laws;
+mod value;
+
+pub use laws::depth_is_no_part;
+pub use value::{Limit, RunEnding, Value};
