@@ -1,2 +1,7 @@
 pub mod LanguageLaws
 pub mod OneCourse
+pub mod PutSteps
+pub mod FetchSteps
+pub mod Endings
+pub mod Courses
+pub mod Performing
