@@ -5,3 +5,7 @@ pub mod FetchSteps
 pub mod Endings
 pub mod Courses
 pub mod Performing
+pub mod ByStop
+pub mod FromInvocation
+pub mod Fronts
+pub mod Completeness
