@@ -1,17 +1,17 @@
 -- What a call did, by what stopped it: which course it answers, and which cause a status shows.
-use Rattle.std.proofs.Common.{◌≡◌, ◌≢◌, ◌⊎◌, inl, inr, ℕ, ◌<◌, List, [], ◌++◌, length, None, refl, sym, ap, subst, ◌∙◌, arith}
+use Rattle.std.proofs.Common.{◌≡◌, ◌≢◌, ◌⊎◌, inl, inr, ℕ, ◌<◌, List, ◌++◌, length, None, refl, sym, ap, subst, ◌∙◌, arith}
 use Rattle.std.specs.Io.KnownBytes.{Appends}
 use Rattle.kt_outside.specs.Outside.{OutputState, Rose}
-use Rattle.ktflow.specs.Course.{Course, Event, Ending, ended, text_of, line_of, status_of, lines_ended, IsPrefix, IsBeforeReading}
+use Rattle.ktflow.specs.Course.{Course, Event, Ending, ended, text_of, askings, line_of, status_of, lines_ended, IsPrefix, IsBeforeReading}
 use Rattle.ktflow.specs.Course as course
 use Rattle.ktflow.specs.Program.{HasCourse, usage, request_of}
 use Rattle.ktflow.specs.Executing.{ending_of}
-use Rattle.ktflow.specs.Invoking.{Outside, HasShape, StopsAtFetch, StopsAtTake, Performs, Reports, line_of_stop}
-use Rattle.ktflow.specs.Clauses.{IsAnswer, Answers, AnswersCourse, IsQuiet, DoesNotRun, EndsAtSource}
+use Rattle.ktflow.specs.Invoking.{Outside, HasShape, StopsAtFetch, StopsAtTake, Performs, Reports}
+use Rattle.ktflow.specs.Clauses.{IsAnswer, AnswersCourse, IsQuiet, LeavesInput, DoesNotRun, EndsAtSource}
 use Rattle.ktflow.specs.declared.ending.Stop.{Stop}
 use Rattle.ktflow.specs.declared.ending.Stop.TheVariants.{Ended, SourceFault, InputFault, OutputFault, NoMemory}
 use Rattle.ktflow.proofs.Endings.{is_answer}
-use Rattle.ktflow.proofs.Courses.{none_before_reading, nothing_front, no_file}
+use Rattle.ktflow.proofs.Courses.{input_kept, asks_before_reading, none_before_reading, nothing_front, no_file}
 use Rattle.ktflow.proofs.OneCourse.{has_one_course, none_some}
 
 -- a call that came to the end of a course answers it
@@ -87,12 +87,12 @@ does_not_run words before after (Ended own) ending p h =
     record {
       out = subst (λ (b : List ℕ). Appends before.out.written after.out.written b) (p.stops.text ∙ ap (λ (c : Course). text_of c.events) same) p.puts;
       out_count = p.stops.out_count;
-      input_count = p.stops.input_count;
+      input = record { left = input_kept before.input after.input p.taken p.left (p.stops.unread (ap (λ (c : Course). askings c.events) same)) p.takes; count = p.stops.input_count };
     }
 does_not_run words before after SourceFault ending p h = record {
   out = subst (λ (b : List ℕ). Appends before.out.written after.out.written b) p.stops.none_put p.puts;
   out_count = p.stops.out_count;
-  input_count = p.stops.input_count;
+  input = record { left = input_kept before.input after.input p.taken p.left p.stops.none_taken p.takes; count = p.stops.input_count };
 }
 does_not_run words before after InputFault ending p h =
     let same = has_one_course words p.source (p.taken ++ p.left) p.stops.course (ended ending) p.stops.has_course h in
@@ -104,8 +104,22 @@ does_not_run words before after OutputFault ending p h =
 does_not_run words before after NoMemory ending p h = record {
   out = subst (λ (b : List ℕ). Appends before.out.written after.out.written b) (nothing_front p.put (p.stops.text (ended ending) h)) p.puts;
   out_count = p.stops.out_count;
-  input_count = p.stops.input_count;
+  input = record { left = input_kept before.input after.input p.taken p.left (p.stops.unread (ended ending) h refl) p.takes; count = p.stops.input_count };
 }
+
+-- an input is left as it is where the course enters no `readLine`
+pub leaves_input : (words : List (List ℕ)) (before after : Outside) (stop : Stop) → (p : Performs words before after stop) → (course : Course) → HasCourse words p.source (p.taken ++ p.left) course → askings course.events ≡ 0 → LeavesInput before after
+leaves_input words before after (Ended ending) p course h none =
+    let same = has_one_course words p.source (p.taken ++ p.left) p.stops.course course p.stops.has_course h in
+    record { left = input_kept before.input after.input p.taken p.left (p.stops.unread (ap (λ (c : Course). askings c.events) same ∙ none)) p.takes; count = p.stops.input_count }
+leaves_input words before after SourceFault p course h none = record { left = input_kept before.input after.input p.taken p.left p.stops.none_taken p.takes; count = p.stops.input_count }
+leaves_input words before after InputFault p course h none =
+    let same = has_one_course words p.source (p.taken ++ p.left) p.stops.course course p.stops.has_course h in
+    absurd (asks_before_reading (lines_ended p.taken) p.stops.course.events p.put p.stops.text (ap (λ (c : Course). askings c.events) same ∙ none))
+leaves_input words before after OutputFault p course h none =
+    let same = has_one_course words p.source (p.taken ++ p.left) p.stops.course course p.stops.has_course h in
+    record { left = input_kept before.input after.input p.taken p.left (p.stops.unread (ap (λ (c : Course). askings c.events) same ∙ none)) p.takes; count = p.stops.input_count }
+leaves_input words before after NoMemory p course h none = record { left = input_kept before.input after.input p.taken p.left (p.stops.unread course h none) p.takes; count = p.stops.input_count }
 
 -- words without a shape ask no library
 pub no_fetch : (words : List (List ℕ)) (before after : Outside) (stop : Stop) → Performs words before after stop → request_of words ≡ None → after.library.faults ≡ before.library.faults
@@ -120,11 +134,11 @@ pub ends_at_source : (words : List (List ℕ)) (before after : Outside) (stop : 
 ends_at_source words before after (Ended ending) status p r changed = absurd (changed p.stops.library_count)
 ends_at_source words before after SourceFault status p (inl w) changed = record {
   status_is = inl w.status_is;
-  runs_not = record { out = subst (λ (b : List ℕ). Appends before.out.written after.out.written b) p.stops.none_put p.puts; out_count = p.stops.out_count; input_count = p.stops.input_count };
+  runs_not = record { out = subst (λ (b : List ℕ). Appends before.out.written after.out.written b) p.stops.none_put p.puts; out_count = p.stops.out_count; input = record { left = input_kept before.input after.input p.taken p.left p.stops.none_taken p.takes; count = p.stops.input_count } };
 }
 ends_at_source words before after SourceFault status p (inr f) changed = record {
   status_is = inr f.status_is;
-  runs_not = record { out = subst (λ (b : List ℕ). Appends before.out.written after.out.written b) p.stops.none_put p.puts; out_count = p.stops.out_count; input_count = p.stops.input_count };
+  runs_not = record { out = subst (λ (b : List ℕ). Appends before.out.written after.out.written b) p.stops.none_put p.puts; out_count = p.stops.out_count; input = record { left = input_kept before.input after.input p.taken p.left p.stops.none_taken p.takes; count = p.stops.input_count } };
 }
 ends_at_source words before after InputFault status p r changed = absurd (changed p.stops.library_count)
 ends_at_source words before after OutputFault status p r changed = absurd (changed p.stops.library_count)

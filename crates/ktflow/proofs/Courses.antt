@@ -1,10 +1,11 @@
 -- Courses, their texts, and the told bytes.
-use Rattle.std.proofs.Common.{◌≡◌, ℕ, List, [], ◌∷◌, ◌++◌, Option, Some, None, IfSome, option_map, refl, sym, ap, subst, ◌∙◌, append_assoc, append-nil}
-use Rattle.kt_outside.specs.Outside.{LibraryState}
-use Rattle.ktflow.specs.Course.{Course, Event, Asked, Printed, text_of, IsPrefix, IsBeforeReading}
+use Rattle.std.proofs.Common.{◌≡◌, ℕ, arith, List, [], ◌∷◌, ◌++◌, Option, Some, None, IfSome, option_map, refl, sym, ap, subst, ◌∙◌, append_assoc, append-nil}
+use Rattle.std.specs.Io.KnownBytes.{Consumes, Keeps}
+use Rattle.kt_outside.specs.Outside.{InputState}
+use Rattle.ktflow.specs.Course.{Course, Event, Asked, Printed, text_of, askings, IsPrefix, IsBeforeReading}
 use Rattle.ktflow.specs.Language.{IsRefused, IsRun}
 use Rattle.ktflow.specs.Program.{Request, HasCourse, usage, refused, ran, request_of, file_of, counted}
-use Rattle.ktflow.specs.Streams.{IsKnown}
+use Rattle.ktflow.specs.Streams.{IsKnown, TakesBytes}
 use Rattle.ktflow.specs.Invoking.{Outside, IsSource, HasShape, Performs}
 use Rattle.ktflow.specs.Clauses.{Tells, TellsFile}
 use Rattle.ktflow.specs.declared.ending.Stop.{Stop}
@@ -40,6 +41,15 @@ before_front n events put b = record {
 no_asking : (before after : List Event) → [] ≡ before ++ (Asked ∷ after) → ⊥
 no_asking [] after e = cc
 no_asking (x ∷ before) after e = cc
+
+-- a course that enters a `readLine` asks
+some_asking : (before after : List Event) → askings (before ++ (Asked ∷ after)) ≡ 0 → ⊥
+some_asking [] after e = omega (arith, e)
+some_asking (Asked ∷ before) after e = omega (arith, e)
+some_asking (Printed t ∷ before) after e = some_asking before after e
+
+pub asks_before_reading : (n : ℕ) (events : List Event) (put : List ℕ) → IsBeforeReading n events put → askings events ≡ 0 → ⊥
+asks_before_reading n events put b none = some_asking b.before b.after (sym (ap (λ (es : List Event). askings es) b.split) ∙ none)
 
 pub none_before_reading : (n : ℕ) (put : List ℕ) → IsBeforeReading n [] put → ⊥
 none_before_reading n put b = no_asking b.before b.after b.split
@@ -77,8 +87,30 @@ tells_file words before source input r is t = record {
   told = subst (λ (o : Option (List ℕ)). IfSome o (λ n. before.library.told n ≡ Some source)) (file_at words r is) t.source_told;
 }
 
-pub told_input : (left : Option (List ℕ)) (input bytes : List ℕ) → left ≡ Some input → IsKnown left bytes → input ≡ bytes
-told_input left input bytes told known = subst (λ (o : Option (List ℕ)). IsKnown o bytes) told known
+-- what was taken and what is left are what the input told
+known_before : (old new : Option (List ℕ)) (taken left : List ℕ) → Consumes old new taken → IsKnown new left → IsKnown old (taken ++ left)
+known_before None new taken left p q = tt
+known_before (Some xs) None taken left p q = absurd p
+known_before (Some xs) (Some ys) taken left p q = p ∙ ap (λ (s : List ℕ). taken ++ s) q
+
+pub told_input : (old new : InputState) (input taken left : List ℕ) → old.left ≡ Some input → TakesBytes old new taken left → input ≡ taken ++ left
+told_input old new input taken left told t = subst (λ (o : Option (List ℕ)). IsKnown o (taken ++ left)) told (known_before old.left new.left taken left t.consumed t.left_is)
+
+known_after : (new : Option (List ℕ)) (input taken left : List ℕ) → Consumes (Some input) new taken → IsKnown new left → new ≡ Some left
+known_after None input taken left p q = absurd p
+known_after (Some ys) input taken left p q = ap (λ (s : List ℕ). Some s) q
+
+pub told_left : (old new : InputState) (input taken left : List ℕ) → old.left ≡ Some input → TakesBytes old new taken left → new.left ≡ Some left
+told_left old new input taken left told t = known_after new.left input taken left (subst (λ (o : Option (List ℕ)). Consumes o new.left taken) told t.consumed) t.left_is
+
+-- an input of which nothing was taken keeps its bytes
+known_kept : (old new : Option (List ℕ)) → Consumes old new [] → Keeps old new
+known_kept None new p = tt
+known_kept (Some xs) None p = absurd p
+known_kept (Some xs) (Some ys) p = sym p
+
+pub input_kept : (old new : InputState) (taken left : List ℕ) → taken ≡ [] → TakesBytes old new taken left → Keeps old.left new.left
+input_kept old new taken left none t = known_kept old.left new.left (subst (λ (s : List ℕ). Consumes old.left new.left s) none t.consumed)
 
 -- a course of the same bytes
 pub course_along : (words : List (List ℕ)) (source other input input' : List ℕ) (course : Course) → ((r : Request) → request_of words ≡ Some r → source ≡ other) → input ≡ input' → HasCourse words source input course → HasCourse words other input' course
@@ -92,11 +124,11 @@ pub to_told : (words : List (List ℕ)) (before after : Outside) (stop : Stop) (
 to_told words before after stop source input course t p h =
     course_along words p.source source (p.taken ++ p.left) input course
     (λ r is. told_file words before source p.source (tells_file words before source input r is t) p.source_is)
-    (sym (told_input before.input.left input (p.taken ++ p.left) t.input_told p.takes.before)) h
+    (sym (told_input before.input after.input input p.taken p.left t.input_told p.takes)) h
 
 -- and the other way round
 pub from_told : (words : List (List ℕ)) (before after : Outside) (stop : Stop) (source input : List ℕ) (course : Course) → Tells before words source input → (p : Performs words before after stop) → HasCourse words source input course → HasCourse words p.source (p.taken ++ p.left) course
 from_told words before after stop source input course t p h =
     course_along words source p.source input (p.taken ++ p.left) course
     (λ r is. sym (told_file words before source p.source (tells_file words before source input r is t) p.source_is))
-    (told_input before.input.left input (p.taken ++ p.left) t.input_told p.takes.before) h
+    (told_input before.input after.input input p.taken p.left t.input_told p.takes) h

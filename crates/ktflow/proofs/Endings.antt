@@ -1,5 +1,5 @@
 -- What a status tells of an ending. A new ending of a run adds a case to each of these lemmas.
-use Rattle.std.proofs.Common.{◌≡◌, ℕ, List, IsTrue, refl, arith}
+use Rattle.std.proofs.Common.{◌≡◌, IsTrue, refl, arith}
 use Rattle.ktflow.specs.Course.{Ending, Usage, Refused, Ran, status_of, status_of_run}
 use Rattle.ktflow.specs.Clauses.{IsAnswer, is_done, is_limit}
 use Rattle.ktflow.specs.declared.ending.RunEnding.{RunEnding}

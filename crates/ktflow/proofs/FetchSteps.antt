@@ -6,12 +6,19 @@ use Rattle.kt_outside.specs.Outside.{LibraryState, KeepsLibrary, FetchGives, Fet
 use Rattle.ktflow.specs.Program.{most_fetched, counted}
 use Rattle.ktflow.specs.Fetching.{FetchesAll, FailsToFetch}
 
+-- what a library keeps over two calls
+pub keeps_then : (old now next : LibraryState) → KeepsLibrary old now → KeepsLibrary now next → KeepsLibrary old next
+keeps_then old now next a b = record {
+  told = λ name. b.told name ∙ a.told name;
+  vouches = λ name. b.vouches name ∙ a.vouches name;
+  faults = let l = a.faults in let m = b.faults in omega (arith, l, m);
+}
+
 -- So far these bytes came.
 pub record FetchesSoFar (old new : LibraryState) (name source : List ℕ) : Type 0 where
   pub bytes : IfSome (old.told name) (λ told. source ≡ take (length source) told)
   pub within : length source ≤ most_fetched
-  pub told : new.told name ≡ old.told name
-  pub vouches : new.vouches name ≡ old.vouches name
+  pub keeps : KeepsLibrary old new
   pub faults : new.faults ≡ old.faults
 
 -- a piece more
@@ -34,17 +41,16 @@ all_at_limit (Some t) source is p = p ∙ ap (λ (k : ℕ). take k t) is
 -- a fetch gave a piece
 pub so_far_more : (old now next : LibraryState) (name source buf : List ℕ) (n : ℕ) → FetchesSoFar old now name source → FetchGives now next name (length source) buf n → KeepsLibrary now next → length source + n ≤ most_fetched → FetchesSoFar old next name (source ++ take n buf)
 so_far_more old now next name source buf n s gives keeps fits = record {
-  bytes = more_bytes (old.told name) source buf n gives.within s.bytes (subst (λ (o : Option (List ℕ)). IfSome o (λ t. take n buf ≡ take n (drop (length source) t))) s.told gives.bytes);
+  bytes = more_bytes (old.told name) source buf n gives.within s.bytes (subst (λ (o : Option (List ℕ)). IfSome o (λ t. take n buf ≡ take n (drop (length source) t))) (s.keeps.told name) gives.bytes);
   within = let a = length-append source (take n buf) in let b = length-take-le n buf gives.within in omega (arith, a, b, fits);
-  told = keeps.told name ∙ s.told;
-  vouches = keeps.vouches name ∙ s.vouches;
+  keeps = keeps_then old now next s.keeps keeps;
   faults = gives.faults ∙ s.faults;
 }
 
 -- a fetch gave nothing
 pub ends_at_end : (old now next : LibraryState) (name source buf : List ℕ) (n : ℕ) → FetchesSoFar old now name source → FetchGives now next name (length source) buf n → n ≡ 0 → 0 < length buf → FetchesAll old next name source
 ends_at_end old now next name source buf n s gives none room = record {
-  bytes = all_at_end (old.told name) source s.within s.bytes (subst (λ (o : Option (List ℕ)). IfSome o (λ t. length t ≤ length source)) s.told (gives.at_end none room));
+  bytes = all_at_end (old.told name) source s.within s.bytes (subst (λ (o : Option (List ℕ)). IfSome o (λ t. length t ≤ length source)) (s.keeps.told name) (gives.at_end none room));
   within = s.within;
   faults = gives.faults ∙ s.faults;
 }
@@ -61,5 +67,5 @@ ends_at_limit old now name source s past = record {
 pub fails_at : (old now next : LibraryState) (name source buf : List ℕ) → FetchesSoFar old now name source → FetchFails now next name buf → FailsToFetch old next name
 fails_at old now next name source buf s fails = record {
   rose = subst (λ (n : ℕ). Rose n next.faults) s.faults fails.rose;
-  not_vouched = sym s.vouches ∙ fails.not_vouched;
+  not_vouched = sym (s.keeps.vouches name) ∙ fails.not_vouched;
 }

@@ -1,16 +1,16 @@
 -- The clauses on the whole program, on each status and on the order of causes, from what a call did.
-use Rattle.std.proofs.Common.{◌≡◌, ◌⊎◌, ℕ, List, [], ◌++◌, Bool, None, IsTrue, refl, sym, ap, subst, ◌∙◌, arith}
+use Rattle.std.proofs.Common.{◌≡◌, ℕ, List, ◌++◌, Bool, None, IsTrue, refl, sym, ap, subst, ◌∙◌, arith}
 use Rattle.std.specs.Io.KnownBytes.{Appends}
-use Rattle.ktflow.specs.Course.{Course, Ending, Usage, Refused, ended, course_of_run, text_of, line_of, status_of}
+use Rattle.ktflow.specs.Course.{Course, Ending, Usage, Refused, ended, text_of, line_of, status_of}
 use Rattle.ktflow.specs.Language.{IsRefused}
 use Rattle.ktflow.specs.Program.{HasCourse, usage, refused, ran, request_of, counted}
 use Rattle.ktflow.specs.Invoking.{Outside, HasShape, Performs, Invocation}
-use Rattle.ktflow.specs.Clauses.{Tells, TellsFile, IsAnswer, AnswersCourse, IsProgram, HasEnding, MeansEnding, IsRefusal, MeansRefusal, MeansUsage, IsSourceFault, StopsAtReading, IsInputFault, HasStatuses, DoesNotRun, HasOrder, is_done, is_limit}
+use Rattle.ktflow.specs.Clauses.{Tells, IsAnswer, AnswersCourse, IsProgram, MeansEnding, MeansRefusal, MeansUsage, IsSourceFault, IsInputFault, HasStatuses, DoesNotRun, HasOrder, is_done, is_limit}
 use Rattle.ktflow.specs.declared.ending.Stop.{Stop}
-use Rattle.ktflow.proofs.Endings.{is_answer, run_not_refused, run_not_usage, zero_is_done, done_is_zero, nine_is_limit, limit_is_nine}
-use Rattle.ktflow.proofs.Courses.{file_shape, told_file, told_input, to_told}
+use Rattle.ktflow.proofs.Endings.{run_not_refused, run_not_usage, zero_is_done, done_is_zero, nine_is_limit, limit_is_nine}
+use Rattle.ktflow.proofs.Courses.{file_shape, told_file, told_input, told_left, to_told, from_told}
 use Rattle.ktflow.proofs.OneCourse.{has_one_course}
-use Rattle.ktflow.proofs.ByStop.{ended_answers, fetch_failed, take_failed, put_failed, memory_shape, usage_ends, does_not_run, no_fetch, ends_at_source, ends_at_input, ends_at_output, ends_at_report, is_quiet}
+use Rattle.ktflow.proofs.ByStop.{ended_answers, fetch_failed, take_failed, put_failed, memory_shape, usage_ends, does_not_run, leaves_input, no_fetch, ends_at_source, ends_at_input, ends_at_output, ends_at_report, is_quiet}
 
 -- what the call answers, against the told bytes
 pub answers_told : (words : List (List ℕ)) (before after : Outside) (stop : Stop) (status : ℕ) (source input : List ℕ) → Tells before words source input → (p : Performs words before after stop) → AnswersCourse words p.source (p.taken ++ p.left) before after status → AnswersCourse words source input before after status
@@ -138,8 +138,8 @@ input_fault_from words before after status i e =
         has_course = to_told words before after i.stop source input f.course told p f.has_course;
         taken = p.taken;
         left = p.left;
-        input_is = told_input before.input.left input (p.taken ++ p.left) told.input_told p.takes.before;
-        left_is = p.takes.after;
+        input_is = told_input before.input after.input input p.taken p.left told.input_told p.takes;
+        left_is = told_left before.input after.input input p.taken p.left told.input_told p.takes;
         put = p.put;
         out = p.puts;
         text = f.text;
@@ -169,6 +169,7 @@ order_from words before after status i =
       by_refusal = λ source report told r.
           does_not_run words before after i.stop (Refused report) p
           (refusal_course words p.source (p.taken ++ p.left) report (file_shape words told.name told.name_is) (refused_at words before source p.source report (told_file words before source p.source told p.source_is) r));
+      by_reading = λ source input told course h none. leaves_input words before after i.stop p course (from_told words before after i.stop source input course told p h) none;
       by_input = λ changed. ends_at_input words before after i.stop status p i.reports changed;
       by_output = λ changed. ends_at_output words before after i.stop status p i.reports changed;
       by_report = λ changed. ends_at_report before.err after.err i.stop status i.reports changed;

@@ -1,11 +1,11 @@
 -- The prefix rule, from what a call did.
-use Rattle.std.proofs.Common.{◌≡◌, ◌≢◌, inl, inr, ℕ, List, [], ◌++◌, ap, sym, subst, ◌∙◌}
+use Rattle.std.proofs.Common.{◌≢◌, inl, inr, ℕ, List, [], ◌++◌, ap, subst, ◌∙◌}
 use Rattle.std.specs.Io.KnownBytes.{Appends}
 use Rattle.kt_outside.specs.Outside.{OutputState}
 use Rattle.ktflow.specs.Course.{Course, Ending, text_of, line_of, lines_ended, IsPrefix}
 use Rattle.ktflow.specs.Program.{HasCourse}
 use Rattle.ktflow.specs.Invoking.{Outside, Performs, Reports, Invocation, line_of_stop}
-use Rattle.ktflow.specs.Clauses.{IsFaultFront, OfSource, OfInput, OfMemory, HoldsFronts, HasFronts}
+use Rattle.ktflow.specs.Clauses.{OfSource, OfInput, OfMemory, HoldsFronts, HasFronts}
 use Rattle.ktflow.specs.declared.ending.Stop.{Stop}
 use Rattle.ktflow.specs.declared.ending.Stop.TheVariants.{Ended, SourceFault, InputFault, OutputFault, NoMemory}
 use Rattle.ktflow.proofs.Courses.{whole_front, empty_front, nothing_front, before_front, from_told}

@@ -1,8 +1,8 @@
 -- A call has at most one course.
 use Rattle.std.proofs.Common.{◌≡◌, ℕ, List, Option, Some, None, sym, ap, subst, ◌∙◌}
-use Rattle.ktflow.specs.Course.{Course, RunCourse, Refused, ended, course_of_run}
+use Rattle.ktflow.specs.Course.{RunCourse, Refused, ended, course_of_run}
 use Rattle.ktflow.specs.Language.{IsRun}
-use Rattle.ktflow.specs.Program.{Request, HasCourse, usage, refused, ran, OneCourse, request_of, counted}
+use Rattle.ktflow.specs.Program.{Request, usage, refused, ran, OneCourse, request_of, counted}
 use Rattle.ktflow.proofs.LanguageLaws.{one_report, one_run, never_both}
 
 -- words without a shape have no request

@@ -1,11 +1,11 @@
 -- What the public clauses of the program say. This project's own; it knows no language. A later status adds a field to `HasStatuses`
 -- and changes none.
 use Rattle.std.specs.Prelude.{◌≡◌, ◌≢◌, ◌⊎◌, ℕ, ◌≤◌, List, [], ◌++◌, length, Bool, true, false, Some, None, IfSome, IsTrue, codes}
-use Rattle.std.specs.Io.KnownBytes.{Appends}
+use Rattle.std.specs.Io.KnownBytes.{Keeps, Appends}
 use Rattle.kt_outside.specs.Outside.{Rose}
-use Rattle.ktflow.specs.Course.{Course, Ending, Usage, Refused, Ran, text_of, line_of, status_of, IsPrefix, IsBeforeReading, lines_ended}
+use Rattle.ktflow.specs.Course.{Course, Ending, Usage, Refused, Ran, text_of, askings, line_of, status_of, IsPrefix, IsBeforeReading, lines_ended}
 use Rattle.ktflow.specs.Language.{IsRefused}
-use Rattle.ktflow.specs.Program.{Request, HasCourse, request_of, file_of, counted}
+use Rattle.ktflow.specs.Program.{HasCourse, request_of, file_of, counted}
 use Rattle.ktflow.specs.Invoking.{Outside, HasShape}
 use Rattle.ktflow.specs.declared.ending.RunEnding.TheVariants.{Done, Steps}
 
@@ -109,7 +109,7 @@ pub record StopsAtReading (words : List (List ℕ)) (source input : List ℕ) (b
   pub taken : List ℕ
   pub left : List ℕ
   pub input_is : input ≡ taken ++ left
-  pub left_is : IfSome after.input.left (λ bytes. bytes ≡ left)
+  pub left_is : after.input.left ≡ Some left
   pub put : List ℕ
   pub out : Appends before.out.written after.out.written put
   pub text : IsBeforeReading (lines_ended taken) course.events put
@@ -140,11 +140,16 @@ pub record IsQuiet (before after : Outside) : Type 0 where
   pub out : after.out.faults ≡ before.out.faults
   pub err : after.err.faults ≡ before.err.faults
 
--- Nothing is put on `out`, and neither its count nor that of the input changed.
+-- No byte of the input is taken, and its count didn't change.
+pub record LeavesInput (before after : Outside) : Type 0 where
+  pub left : Keeps before.input.left after.input.left
+  pub count : after.input.faults ≡ before.input.faults
+
+-- Nothing is put on `out` and nothing taken of the input, and neither's count changed.
 pub record DoesNotRun (before after : Outside) : Type 0 where
   pub out : Appends before.out.written after.out.written []
   pub out_count : after.out.faults ≡ before.out.faults
-  pub input_count : after.input.faults ≡ before.input.faults
+  pub input : LeavesInput before after
 
 -- Words without a shape ask nothing of the library, and don't run.
 pub record AsksNothing (before after : Outside) : Type 0 where
@@ -156,12 +161,13 @@ pub record EndsAtSource (before after : Outside) (status : ℕ) : Type 0 where
   pub status_is : (status ≡ 3) ⊎ (status ≡ 5)
   pub runs_not : DoesNotRun before after
 
--- The order of causes: the words, a source fault, want of memory, a refusal, and then as the written meaning goes. No fault is passed
--- over: where a count changed, the status is that of a fault.
+-- The order of causes: the words, a source fault, want of memory, a refusal, and then as the written meaning goes; the input is left as it
+-- is where no `readLine` is entered. No fault is passed over: where a count changed, the status is that of a fault.
 pub record HasOrder (words : List (List ℕ)) (before after : Outside) (status : ℕ) : Type 0 where
   pub by_words : request_of words ≡ None → AsksNothing before after
   pub by_source : after.library.faults ≢ before.library.faults → EndsAtSource before after status
   pub by_refusal : (source report : List ℕ) → TellsFile before words source → IsRefused (counted source) report → DoesNotRun before after
+  pub by_reading : (source input : List ℕ) → Tells before words source input → (course : Course) → HasCourse words source input course → askings course.events ≡ 0 → LeavesInput before after
   pub by_input : after.input.faults ≢ before.input.faults → (status ≡ 4) ⊎ (status ≡ 5)
   pub by_output : after.out.faults ≢ before.out.faults → status ≡ 5
   pub by_report : after.err.faults ≢ before.err.faults → status ≡ 5

@@ -1,5 +1,5 @@
 -- What the fetch of a source does. This project's own.
-use Rattle.std.specs.Prelude.{◌≡◌, ℕ, ◌≤◌, List, length, take, false, IfSome}
+use Rattle.std.specs.Prelude.{◌≡◌, ℕ, ◌≤◌, List, length, false, IfSome}
 use Rattle.kt_outside.specs.Outside.{LibraryState, Rose}
 use Rattle.ktflow.specs.Program.{most_fetched, counted}
 use Rattle.ktflow.specs.declared.source.FetchFault.{FetchFault}

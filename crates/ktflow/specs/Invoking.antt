@@ -2,8 +2,8 @@
 -- language.
 use Rattle.std.specs.Prelude.{◌≡◌, ℕ, ◌<◌, ◌⊎◌, List, [], ◌++◌, length, Some, IfSome, false, codes}
 use Rattle.std.specs.Io.KnownBytes.{Appends}
-use Rattle.kt_outside.specs.Outside.{LibraryState, InputState, OutputState, Rose}
-use Rattle.ktflow.specs.Course.{Course, text_of, line_of, status_of, IsPrefix, IsBeforeReading, lines_ended}
+use Rattle.kt_outside.specs.Outside.{LibraryState, InputState, OutputState, KeepsLibrary, Rose}
+use Rattle.ktflow.specs.Course.{Course, text_of, askings, line_of, status_of, IsPrefix, IsBeforeReading, lines_ended}
 use Rattle.ktflow.specs.Program.{Request, HasCourse, request_of, file_of}
 use Rattle.ktflow.specs.Streams.{TakesBytes, IsKnown, PutsWhole, PutsFront}
 use Rattle.ktflow.specs.Executing.{ending_of}
@@ -30,11 +30,12 @@ pub record HasShape (words : List (List ℕ)) : Type 0 where
   pub request : Request
   pub request_is : request_of words ≡ Some request
 
--- The call came to the end of a course: all its text was put, and no count rose.
-pub record StopsAtEnd (words : List (List ℕ)) (source input put : List ℕ) (before after : Outside) (ending : Ending) : Type 0 where
+-- The call came to the end of a course: all its text was put, nothing was taken where it enters no `readLine`, and no count rose.
+pub record StopsAtEnd (words : List (List ℕ)) (source input taken put : List ℕ) (before after : Outside) (ending : Ending) : Type 0 where
   pub course : Course
   pub has_course : HasCourse words source input course
   pub text : put ≡ text_of course.events
+  pub unread : askings course.events ≡ 0 → taken ≡ []
   pub ending_is : ending_of ending ≡ course.ending
   pub library_count : after.library.faults ≡ before.library.faults
   pub input_count : after.input.faults ≡ before.input.faults
@@ -61,36 +62,40 @@ pub record StopsAtTake (words : List (List ℕ)) (source input taken put : List 
   pub library_count : after.library.faults ≡ before.library.faults
   pub out_count : after.out.faults ≡ before.out.faults
 
--- A put on `out` failed: the text is a front, and the output didn't vouch for the whole.
-pub record StopsAtPut (words : List (List ℕ)) (source input put : List ℕ) (before after : Outside) : Type 0 where
+-- A put on `out` failed: the text is a front, nothing was taken where the course enters no `readLine`, and the output didn't vouch for
+-- the whole.
+pub record StopsAtPut (words : List (List ℕ)) (source input taken put : List ℕ) (before after : Outside) : Type 0 where
   pub course : Course
   pub has_course : HasCourse words source input course
   pub text : IsPrefix put (text_of course.events)
+  pub unread : askings course.events ≡ 0 → taken ≡ []
   pub rose : Rose before.out.faults after.out.faults
   pub not_vouched : before.out.vouched < length (text_of course.events)
   pub library_count : after.library.faults ≡ before.library.faults
   pub input_count : after.input.faults ≡ before.input.faults
 
 -- There was no memory, for words that have a shape.
-pub record StopsForMemory (words : List (List ℕ)) (source input put : List ℕ) (before after : Outside) : Type 0 where
+pub record StopsForMemory (words : List (List ℕ)) (source input taken put : List ℕ) (before after : Outside) : Type 0 where
   pub shape : HasShape words
   pub text : (course : Course) → HasCourse words source input course → IsPrefix put (text_of course.events)
+  pub unread : (course : Course) → HasCourse words source input course → askings course.events ≡ 0 → taken ≡ []
   pub library_count : after.library.faults ≡ before.library.faults
   pub input_count : after.input.faults ≡ before.input.faults
   pub out_count : after.out.faults ≡ before.out.faults
 
 abbrev pub Stops : List (List ℕ) → List ℕ → List ℕ → List ℕ → List ℕ → Outside → Outside → Stop → Type 0
-Stops words source taken left put before after (Ended ending) = StopsAtEnd words source (taken ++ left) put before after ending
+Stops words source taken left put before after (Ended ending) = StopsAtEnd words source (taken ++ left) taken put before after ending
 Stops words source taken left put before after SourceFault = StopsAtFetch words taken put before after
 Stops words source taken left put before after InputFault = StopsAtTake words source (taken ++ left) taken put before after
-Stops words source taken left put before after OutputFault = StopsAtPut words source (taken ++ left) put before after
-Stops words source taken left put before after NoMemory = StopsForMemory words source (taken ++ left) put before after
+Stops words source taken left put before after OutputFault = StopsAtPut words source (taken ++ left) taken put before after
+Stops words source taken left put before after NoMemory = StopsForMemory words source (taken ++ left) taken put before after
 
 -- What was done before the text on `err`: FILE and the input have some bytes, the told ones where they are told, and the call stopped
--- against a course for them.
+-- against a course for them. What the library tells stays.
 pub record Performs (words : List (List ℕ)) (before after : Outside) (stop : Stop) : Type 0 where
   pub source : List ℕ
   pub source_is : IsSource words before.library source
+  pub keeps_library : KeepsLibrary before.library after.library
   pub taken : List ℕ
   pub left : List ℕ
   pub takes : TakesBytes before.input after.input taken left

@@ -1,6 +1,6 @@
 -- What a call did to an input and to an output. This project's own; it says nothing of pieces.
-use Rattle.std.specs.Prelude.{◌≡◌, ℕ, ◌+◌, ◌<◌, ◌≤◌, List, ◌++◌, length, Option, IfSome, Result, MatchResult}
-use Rattle.std.specs.Io.KnownBytes.{Appends}
+use Rattle.std.specs.Prelude.{◌≡◌, ℕ, ◌+◌, ◌<◌, ◌≤◌, List, length, Option, IfSome, Result, MatchResult}
+use Rattle.std.specs.Io.KnownBytes.{Appends, Consumes}
 use Rattle.kt_outside.specs.Outside.{InputState, OutputState, Rose}
 use Rattle.ktflow.specs.Course.{IsPrefix}
 
@@ -10,8 +10,8 @@ IsKnown known bytes = IfSome known (λ xs. xs ≡ bytes)
 
 -- These bytes were taken, and those are left: the told ones, where they are told.
 pub record TakesBytes (old new : InputState) (taken left : List ℕ) : Type 0 where
-  pub before : IsKnown old.left (taken ++ left)
-  pub after : IsKnown new.left left
+  pub consumed : Consumes old.left new.left taken
+  pub left_is : IsKnown new.left left
   pub vouches : new.vouches ≡ old.vouches
 
 -- These bytes were put, and the output vouches for at most so many fewer.

@@ -74,8 +74,7 @@ pub fn ktflow<L: Library, I: Input, O: Output, E: Output>(
 /// A call has at most one course, so what the clauses say of a course and of every course agree.
 pub fn one_course()
     ensures { OneCourse }
-{
-}
+{}
 
 // All but the text on `err`, whose state is any. Nothing in the language takes bytes of the input yet.
 fn perform<L: Library, I: Input, O: Output>(

@@ -1,5 +1,6 @@
 // Fetches a source by its name.
 ghost use Rattle.std.specs.Prelude.{MatchResult};
+ghost use Rattle.kt_outside.specs.Outside.{KeepsLibrary};
 ghost use Rattle.ktflow.specs.Fetching.{FetchesAll, FetchFails};
 
 use kt_outside::{Fetch, Library};
@@ -23,8 +24,9 @@ pub(crate) fn fetch_source<L: Library>(
     library: &mut L,
     name: &str,
 ) -> Result<Vec<u8>, FetchFault>
-    ensures { MatchResult result (λ source. FetchesAll (L.state library.old) (L.state library.new) name.now source.items)
+    ensures fetches { MatchResult result (λ source. FetchesAll (L.state library.old) (L.state library.new) name.now source.items)
         (λ fault. FetchFails (L.state library.old) (L.state library.new) name.now fault) }
+    ensures keeps { KeepsLibrary (L.state library.old) (L.state library.new) }
 {
     let mut source = Vec::new(alloc);
     let mut buf = [0; PIECE];

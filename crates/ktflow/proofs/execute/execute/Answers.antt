@@ -1,4 +1,4 @@
-use Rattle.std.proofs.Common.{List, ℕ, suc, ◌≡◌, [], ◌∷◌, length, true, ◌==◌, codes, refl, sym, ◌∙◌, arith}
+use Rattle.std.proofs.Common.{List, ℕ, ◌≡◌, [], ◌∷◌, length, true, ◌==◌, codes, refl, sym, ◌∙◌, arith}
 use Rattle.std.proofs.lemmas.Bool.Decides.{nat_tests}
 use Rattle.ktflow.specs.Course.{Printed}
 use Rattle.ktflow.specs.declared.ending.RunEnding.TheVariants.{Done}
