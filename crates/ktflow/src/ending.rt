@@ -27,10 +27,15 @@ pub enum Ending {
 /// What stops a call before its text on `err`: an ending, or a fault or want of memory before it.
 #[derive(Debug, Drop)]
 pub enum Stop {
+    /// The written meaning ended the call.
     Ended(Ending),
+    /// A fetch of FILE failed.
     SourceFault,
+    /// A take failed.
     InputFault,
+    /// A put on `out` failed.
     OutputFault,
+    /// There was no memory.
     NoMemory,
 }
 

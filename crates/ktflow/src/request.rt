@@ -15,7 +15,8 @@ pub(crate) struct RunRequest<'a> {
 
 /// What the words ask for, none where they have no shape.
 pub(crate) fn read_request(words: &[String]) -> Option<RunRequest<'_>>
-    ensures { option_map (λ r. record { file = r.file.now; steps = r.steps }) result ≡ request_of (map (λ w. string_bytes w) words.now) }
+    ensures { option_map (λ r. record { file = r.file.now; steps = r.steps }) result
+        ≡ request_of (map (λ w. string_bytes w) words.now) }
 {
     if words.len() == 2 {
         if words[0].as_str() != "run" {
