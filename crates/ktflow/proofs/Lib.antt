@@ -1,0 +1,11 @@
+pub mod LanguageLaws
+pub mod OneCourse
+pub mod PutSteps
+pub mod FetchSteps
+pub mod Endings
+pub mod Courses
+pub mod Performing
+pub mod ByStop
+pub mod FromInvocation
+pub mod Fronts
+pub mod Completeness
