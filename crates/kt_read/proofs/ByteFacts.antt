@@ -52,7 +52,7 @@ past_limit value value' d i digits within digit next past e =
     let cut : drop i digits ≡ get_or digits i 0 ∷ left = drop-cons digits i 0 within in
     let whole : decimal_value digits ≡ fold (λ n d. 10 * n + (d - 48)) (10 * value + (get_or digits i 0 - 48)) left = e ∙ ap (fold (λ n d. 10 * n + (d - 48)) value) cut in
     let more : 10 * value + (get_or digits i 0 - 48) ≤ decimal_value digits =
-      subst (λ k. 10 * value + (get_or digits i 0 - 48) ≤ k) (sym whole) (more_digits-le (10 * value + (get_or digits i 0 - 48)) left) in
+    subst (λ k. 10 * value + (get_or digits i 0 - 48) ≤ k) (sym whole) (more_digits-le (10 * value + (get_or digits i 0 - 48)) left) in
     let over : nat_le (decimal_value digits) 2147483647 ≡ false = lt-leb (decimal_value digits) 2147483647 (omega (arith, digit, next, past, more)) in
     let parts : (nat_le (length digits) 10 && nat_le (decimal_value digits) 2147483647) ≡ false = and_right (nat_le (length digits) 10) (nat_le (decimal_value digits) 2147483647) over in
     and_right (not (first_byte digits == 48) || nat_le (length digits) 1) (nat_le (length digits) 10 && nat_le (decimal_value digits) 2147483647) parts

@@ -87,7 +87,7 @@ read_more {words} {found} {number} {rest} w after left s pushed trees r e close 
       most = j;
       enough = omega (arith, fuel, r.enough, shorter);
       reading_is = r.reading_is ∙ ap (λ ws. behind found (statements r.most number ws)) e ∙ ap (behind found) step ∙ behind_push found s (statements j (number + trees_in s.kind) left)
-        ∙ ap (λ k. behind (found ++ s ∷ []) (statements j (number + k) left)) (sym trees_are) ∙ ap (λ l. behind l (statements j (number + trees) left)) (sym pushed_is);
+          ∙ ap (λ k. behind (found ++ s ∷ []) (statements j (number + k) left)) (sym trees_are) ∙ ap (λ l. behind l (statements j (number + trees) left)) (sym pushed_is);
     }
 
 -- where no words are left

@@ -92,18 +92,18 @@ so_far_token' {source} {words} {names} {fresh} {rest} b after f s e blank is las
     let left : length (drop f.width rest) ≡ length rest - f.width = length-drop f.width rest in
     let next : at + f.width ≡ length source - length (drop f.width rest) = omega (arith, left, s.within, within) in
     let step' : words_from s.moves names at fresh (b ∷ after)
-          ≡ placed f at fresh ∷ words_from m (names_behind names f.kind (take f.width (b ∷ after))) (at + f.width) false (drop f.width (b ∷ after)) =
+    ≡ placed f at fresh ∷ words_from m (names_behind names f.kind (take f.width (b ∷ after))) (at + f.width) false (drop f.width (b ∷ after)) =
     step ∙ ap (λ (g : Front). placed g at fresh ∷ words_from m (names_behind names g.kind (take g.width (b ∷ after))) (at + g.width) false (drop g.width (b ∷ after))) (sym here) in
     let step'' : words_from s.moves names at fresh rest
-          ≡ placed f at fresh ∷ words_from m (names_behind names f.kind (take f.width rest)) (at + f.width) false (drop f.width rest) =
+    ≡ placed f at fresh ∷ words_from m (names_behind names f.kind (take f.width rest)) (at + f.width) false (drop f.width rest) =
     subst (λ t. words_from s.moves names at fresh t ≡ placed f at fresh ∷ words_from m (names_behind names f.kind (take f.width t)) (at + f.width) false (drop f.width t)) (sym e) step' in
     record {
       moves = m;
       enough = omega (arith, left, fuel, s.enough, moves, within);
       within = omega (arith, left, s.within);
       words_are = s.words_are ∙ ap (λ ws. words ++ ws) step''
-        ∙ ap (λ k. words ++ placed f at fresh ∷ words_from m (names_behind names f.kind (take f.width rest)) k false (drop f.width rest)) next
-        ∙ sym (append_assoc words (placed f at fresh ∷ []) (words_from m (names_behind names f.kind (take f.width rest)) (length source - length (drop f.width rest)) false (drop f.width rest)));
+          ∙ ap (λ k. words ++ placed f at fresh ∷ words_from m (names_behind names f.kind (take f.width rest)) k false (drop f.width rest)) next
+          ∙ sym (append_assoc words (placed f at fresh ∷ []) (words_from m (names_behind names f.kind (take f.width rest)) (length source - length (drop f.width rest)) false (drop f.width rest)));
     }
 
 -- behind another token, which is pushed
@@ -115,7 +115,7 @@ so_far_token {source} {words} {names} {fresh} {rest} b after f w pushed names' s
     let whole = pushed_is ∙ ap (λ v. words ++ v ∷ []) word_is in
     subst (λ ws. SoFar source ws names' false (drop f.width rest)) (sym whole)
     (subst (λ ns. SoFar source (words ++ placed f (length source - length rest) fresh ∷ []) ns false (drop f.width rest)) (sym names_are)
-      (so_far_token' b after f s e blank is last moves within))
+    (so_far_token' b after f s e blank is last moves within))
 
 -- behind the end, which is pushed
 pub so_far_end : {source : List ℕ} {words : List Word} {names : List (List ℕ)} {fresh : Bool} {rest : List ℕ} (w : Word) (pushed : List Word)

@@ -85,7 +85,8 @@ fn trees_in(kind: &StmtKind) -> u32
 {
     match kind {
         StmtKind::Local {
-            initialiser: None, ..
+            initialiser: None,
+            ..
         } => 1,
         _ => 2,
     }
@@ -93,8 +94,6 @@ fn trees_in(kind: &StmtKind) -> u32
 
 #[cfg(test)]
 mod tests {
-    ghost use Rattle.std.specs.Prelude.{◌≤◌, length};
-
     use super::*;
     use kt_tree::{Expr, ExprKind, Ident};
     use std::test::Fail;
@@ -127,7 +126,10 @@ mod tests {
     fn names_the_first_misfit(rt: HostRuntime) {
         assert_eq!(rt; fault(&rt, b"fun main() { if }"), misfit(13, 15));
         assert_eq!(rt; fault(&rt, b"fun main() { val x = 08 }"), misfit(21, 22));
-        assert_eq!(rt; fault(&rt, b"fun main() { val x = 2147483648 }"), misfit(21, 22));
+        assert_eq!(rt;
+            fault(&rt, b"fun main() { val x = 2147483648 }"),
+            misfit(21, 22)
+        );
         assert_eq!(rt; fault(&rt, b"fun main() { val x = 1a }"), misfit(21, 22));
         assert_eq!(rt; fault(&rt, b"fun main() { \xc3\xa9 }"), misfit(13, 13));
         assert_eq!(rt; fault(&rt, b""), misfit(0, 0));

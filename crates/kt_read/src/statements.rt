@@ -27,7 +27,12 @@ pub fn statement(number: u32, words: &[Word]) -> Result<(Stmt, &[Word]), Span>
 }
 
 /// What stands behind `val` or `var`.
-fn declaration(number: u32, start: u32, is_val: bool, words: &[Word]) -> Result<(Stmt, &[Word]), Span>
+fn declaration(
+    number: u32,
+    start: u32,
+    is_val: bool,
+    words: &[Word],
+) -> Result<(Stmt, &[Word]), Span>
     requires { number < 4294967295 }
     ensures reads { Answers (grammar.declaration number start is_val words.now) result }
     ensures shorter { IfOk result (λ r. length r.1.now ≤ length words.now) }
@@ -37,7 +42,13 @@ fn declaration(number: u32, start: u32, is_val: bool, words: &[Word]) -> Result<
 }
 
 /// What stands behind the declared name: a type, or an initialiser.
-fn behind_name(number: u32, start: u32, is_val: bool, ident: Ident, words: &[Word]) -> Result<(Stmt, &[Word]), Span>
+fn behind_name(
+    number: u32,
+    start: u32,
+    is_val: bool,
+    ident: Ident,
+    words: &[Word],
+) -> Result<(Stmt, &[Word]), Span>
     requires { number < 4294967295 }
     ensures reads { Answers (grammar.behind_name number start is_val ident words.now) result }
     ensures shorter { IfOk result (λ r. length r.1.now ≤ length words.now) }
@@ -56,7 +67,14 @@ fn behind_name(number: u32, start: u32, is_val: bool, ident: Ident, words: &[Wor
 }
 
 /// What stands behind the type: an initialiser, or nothing.
-fn behind_type(number: u32, start: u32, is_val: bool, ident: Ident, written: Word, words: &[Word]) -> Result<(Stmt, &[Word]), Span>
+fn behind_type(
+    number: u32,
+    start: u32,
+    is_val: bool,
+    ident: Ident,
+    written: Word,
+    words: &[Word],
+) -> Result<(Stmt, &[Word]), Span>
     requires { number < 4294967295 }
     ensures reads { Answers (grammar.behind_type number start is_val ident written words.now) result }
     ensures shorter { IfOk result (λ r. length r.1.now ≤ length words.now) }
@@ -67,22 +85,41 @@ fn behind_type(number: u32, start: u32, is_val: bool, ident: Ident, written: Wor
     if is_next(WordKind::Equals, word) {
         initialised(number, start, is_val, ident, rest)
     } else {
-        ended(local(number, start, written.span.end, is_val, ident, None), words)
+        ended(
+            local(number, start, written.span.end, is_val, ident, None),
+            words,
+        )
     }
 }
 
 /// The initialiser behind `=`.
-fn initialised(number: u32, start: u32, is_val: bool, ident: Ident, words: &[Word]) -> Result<(Stmt, &[Word]), Span>
+fn initialised(
+    number: u32,
+    start: u32,
+    is_val: bool,
+    ident: Ident,
+    words: &[Word],
+) -> Result<(Stmt, &[Word]), Span>
     requires { number < 4294967295 }
     ensures reads { Answers (grammar.initialised number start is_val ident words.now) result }
     ensures shorter { IfOk result (λ r. length r.1.now ≤ length words.now) }
 {
     let (value, rest) = operand(number + 1, words)?;
-    ended(local(number, start, value.span.end, is_val, ident, Some(value)), rest)
+    ended(
+        local(number, start, value.span.end, is_val, ident, Some(value)),
+        rest,
+    )
 }
 
 /// The declaration of a local.
-fn local(number: u32, start: u32, end: u32, is_val: bool, ident: Ident, initialiser: Option<Expr>) -> Stmt
+fn local(
+    number: u32,
+    start: u32,
+    end: u32,
+    is_val: bool,
+    ident: Ident,
+    initialiser: Option<Expr>,
+) -> Stmt
     ensures { result ≡ grammar.local number start end is_val ident initialiser }
 {
     Stmt {

@@ -18,8 +18,8 @@ statements-preserved c =
     record {
       number = omega (arith, l.invariant.number, c.trees_in-number.ensures.few, c.in_ok-statement.ensures.shorter);
       so_far = read_more c.in-Some.word.now c.in-Some.behind.now c.in_ok-statement.behind.now c.in_ok-statement.statement c.push.new.self.items c.trees_in-number.result
-        l.invariant.so_far c.in-Some.ensures.cases.0 (sym c.is_close.ensures ∙ c.if-is_close.false) c.in_ok-statement.ensures.reads c.in_ok-statement.ensures.shorter
-        c.in_ok-push.ensures.items c.trees_in-number.ensures.trees;
+          l.invariant.so_far c.in-Some.ensures.cases.0 (sym c.is_close.ensures ∙ c.if-is_close.false) c.in_ok-statement.ensures.reads c.in_ok-statement.ensures.shorter
+          c.in_ok-push.ensures.items c.trees_in-number.ensures.trees;
     }
 
 pub returns-clause-fault : goal.returns-clause-fault

@@ -34,7 +34,7 @@ moves-preserved c =
       names = omega (arith, l.invariant.names, names, left, moves, within);
       words = omega (arith, l.invariant.words, c.in_ok-push.ensures.len, left, moves, within);
       so_far = subst (SoFar c.args.source.now c.push.new.self.items c.front_at.new.names false) (sym c.split_at.ensures.back)
-        (so_far_token c.in-Some.b.now c.in-Some.after.now (front_of f) c.placed.result c.push.new.self.items c.front_at.new.names l.invariant.so_far c.in-Some.ensures.cases.0
+          (so_far_token c.in-Some.b.now c.in-Some.after.now (front_of f) c.placed.result c.push.new.self.items c.front_at.new.names l.invariant.so_far c.in-Some.ensures.cases.0
           (sym c.is_blank.ensures ∙ c.if-is_blank.false) c.in_ok-front.ensures.front more moves within c.placed.ensures c.in_ok-push.ensures.items c.in_ok-front.ensures.names);
     }
 
