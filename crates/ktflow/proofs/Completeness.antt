@@ -2,7 +2,8 @@
 use Rattle.std.proofs.Common.{◌≡◌, ◌⊎◌, inl, inr, ℕ, ◌<◌, ◌≤◌, List, ◌++◌, length, Bool, true, false, Option, Some, IfSome, IsTrue, sym, ap, subst, ◌∙◌, arith}
 use Rattle.std.proofs.lemmas.Bool.{false≢true}
 use Rattle.kt_outside.specs.Outside.{Rose}
-use Rattle.ktflow.specs.Course.{Course, Ending, text_of, line_of}
+use Rattle.kt_mean.specs.Events.{text_of}
+use Rattle.ktflow.specs.Course.{Course, Ending, line_of}
 use Rattle.ktflow.specs.Program.{HasCourse, file_of}
 use Rattle.ktflow.specs.Executing.{ending_of}
 use Rattle.ktflow.specs.Invoking.{Outside, Performs, Reports, Invocation, line_of_stop}

@@ -2,7 +2,9 @@
 use Rattle.std.proofs.Common.{◌≡◌, ℕ, arith, List, [], ◌∷◌, ◌++◌, Option, Some, None, IfSome, option_map, refl, sym, ap, subst, ◌∙◌, append_assoc, append-nil}
 use Rattle.std.specs.Io.KnownBytes.{Consumes, Keeps}
 use Rattle.kt_outside.specs.Outside.{InputState}
-use Rattle.ktflow.specs.Course.{Course, Event, Asked, Printed, text_of, askings, IsPrefix, IsBeforeReading}
+use Rattle.kt_outside.specs.Texts.{IsPrefix}
+use Rattle.kt_mean.specs.Events.{Event, Asked, Printed, text_of}
+use Rattle.ktflow.specs.Course.{Course, askings, IsBeforeReading}
 use Rattle.ktflow.specs.Language.{IsRefused, IsRun}
 use Rattle.ktflow.specs.Program.{Request, HasCourse, usage, refused, ran, request_of, file_of, counted}
 use Rattle.ktflow.specs.Streams.{IsKnown, TakesBytes}

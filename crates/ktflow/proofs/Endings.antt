@@ -2,8 +2,8 @@
 use Rattle.std.proofs.Common.{◌≡◌, IsTrue, refl, arith}
 use Rattle.ktflow.specs.Course.{Ending, Usage, Refused, Ran, status_of, status_of_run}
 use Rattle.ktflow.specs.Clauses.{IsAnswer, is_done, is_limit}
-use Rattle.ktflow.specs.declared.ending.RunEnding.{RunEnding}
-use Rattle.ktflow.specs.declared.ending.RunEnding.TheVariants.{Done, Steps}
+use Rattle.kt_mean.specs.declared.value.RunEnding.{RunEnding}
+use Rattle.kt_mean.specs.declared.value.RunEnding.TheVariants.{Done, Steps}
 
 -- the statuses of the written meaning are none of a fault
 pub is_answer : (ending : Ending) → IsAnswer (status_of ending)

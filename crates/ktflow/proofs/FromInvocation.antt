@@ -1,7 +1,8 @@
 -- The clauses on the whole program, on each status and on the order of causes, from what a call did.
 use Rattle.std.proofs.Common.{◌≡◌, ℕ, List, ◌++◌, Bool, None, IsTrue, refl, sym, ap, subst, ◌∙◌, arith}
 use Rattle.std.specs.Io.KnownBytes.{Appends}
-use Rattle.ktflow.specs.Course.{Course, Ending, Usage, Refused, ended, text_of, line_of, status_of}
+use Rattle.kt_mean.specs.Events.{text_of}
+use Rattle.ktflow.specs.Course.{Course, Ending, Usage, Refused, ended, line_of, status_of}
 use Rattle.ktflow.specs.Language.{IsRefused}
 use Rattle.ktflow.specs.Program.{HasCourse, usage, refused, ran, request_of, counted}
 use Rattle.ktflow.specs.Invoking.{Outside, HasShape, Performs, Invocation}

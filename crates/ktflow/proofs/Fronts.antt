@@ -2,7 +2,9 @@
 use Rattle.std.proofs.Common.{◌≢◌, inl, inr, ℕ, List, [], ◌++◌, ap, subst, ◌∙◌}
 use Rattle.std.specs.Io.KnownBytes.{Appends}
 use Rattle.kt_outside.specs.Outside.{OutputState}
-use Rattle.ktflow.specs.Course.{Course, Ending, text_of, line_of, lines_ended, IsPrefix}
+use Rattle.kt_outside.specs.Texts.{IsPrefix}
+use Rattle.kt_mean.specs.Events.{text_of}
+use Rattle.ktflow.specs.Course.{Course, Ending, line_of, lines_ended}
 use Rattle.ktflow.specs.Program.{HasCourse}
 use Rattle.ktflow.specs.Invoking.{Outside, Performs, Reports, Invocation, line_of_stop}
 use Rattle.ktflow.specs.Clauses.{OfSource, OfInput, OfMemory, HoldsFronts, HasFronts}

@@ -1,6 +1,6 @@
 -- What the top needs of the language: a source has at most one report and one run, and never both.
 use Rattle.std.proofs.Common.{◌≡◌, ℕ, List, sym, ◌∙◌}
-use Rattle.ktflow.specs.Course.{RunCourse}
+use Rattle.kt_mean.specs.Events.{RunCourse}
 use Rattle.ktflow.specs.Language.{IsRefused, IsRun}
 
 -- a refused source has one report

@@ -1,6 +1,7 @@
 -- A call has at most one course.
 use Rattle.std.proofs.Common.{◌≡◌, ℕ, List, Option, Some, None, sym, ap, subst, ◌∙◌}
-use Rattle.ktflow.specs.Course.{RunCourse, Refused, ended, course_of_run}
+use Rattle.kt_mean.specs.Events.{RunCourse}
+use Rattle.ktflow.specs.Course.{Refused, ended, course_of_run}
 use Rattle.ktflow.specs.Language.{IsRun}
 use Rattle.ktflow.specs.Program.{Request, usage, refused, ran, OneCourse, request_of, counted}
 use Rattle.ktflow.proofs.LanguageLaws.{one_report, one_run, never_both}

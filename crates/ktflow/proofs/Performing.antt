@@ -3,7 +3,9 @@ use Rattle.std.proofs.Common.{◌≡◌, ℕ, ◌≤◌, List, [], length, Optio
 use Rattle.std.proofs.KnownBytes.{Appends-nil, Consumes-nil}
 use Rattle.std.proofs.lemmas.List.{take_all}
 use Rattle.kt_outside.specs.Outside.{LibraryState, InputState, OutputState, KeepsLibrary}
-use Rattle.ktflow.specs.Course.{Course, Ran, RunCourse, ended, course_of_run, text_of, IsPrefix}
+use Rattle.kt_outside.specs.Texts.{IsPrefix}
+use Rattle.kt_mean.specs.Events.{RunCourse, text_of}
+use Rattle.ktflow.specs.Course.{Course, Ran, ended, course_of_run}
 use Rattle.ktflow.specs.Course as course
 use Rattle.ktflow.specs.Language.{IsRefused, IsRun}
 use Rattle.ktflow.specs.Program.{Request, HasCourse, usage, refused, ran, request_of, most_fetched, counted}
@@ -11,7 +13,7 @@ use Rattle.ktflow.specs.Streams.{IsKnown, TakesBytes}
 use Rattle.ktflow.specs.Executing.{Executes, RunsOutOfMemory}
 use Rattle.ktflow.specs.Fetching.{FetchesAll, FailsToFetch}
 use Rattle.ktflow.specs.Invoking.{IsSource, Performs, outside}
-use Rattle.ktflow.specs.declared.ending.RunEnding.{RunEnding}
+use Rattle.kt_mean.specs.declared.value.RunEnding.{RunEnding}
 use Rattle.ktflow.specs.declared.ending.Ending.TheVariants.{Usage, Refused, Ran as RanRun}
 use Rattle.ktflow.specs.declared.ending.Stop.{Stop}
 use Rattle.ktflow.specs.declared.ending.Stop.TheVariants.{Ended, SourceFault, InputFault, OutputFault, NoMemory}
@@ -36,19 +38,20 @@ source_at : (words : List (List ℕ)) (r : Request) (library : LibraryState) (so
 source_at words r library source is known = subst (λ (o : Option (List ℕ)). IfSome o (λ name. IsKnown (library.told name) source)) (sym (file_at words r is)) known
 
 -- what was put where there was no memory is a front of the text of each course
-memory_front : (words : List (List ℕ)) (r : Request) (fetched source input : List ℕ) (old new : OutputState) → request_of words ≡ Some r → fetched ≡ counted source → (m : RunsOutOfMemory fetched r.steps old new) → (course : Course) → HasCourse words source input course → IsPrefix m.put (text_of course.events)
+memory_front : (words : List (List ℕ)) (r : Request) (fetched source input : List ℕ) (old new : OutputState) → request_of words ≡ Some r → fetched ≡ counted source → (m : RunsOutOfMemory fetched r.steps input old new) → (course : Course) → HasCourse words source input course → IsPrefix m.put (text_of course.events)
 memory_front words r fetched source input old new is cut m course (usage n c) = absurd (none_some r (request_of words) n is)
 memory_front words r fetched source input old new is cut m course (refused q report p a c) =
     empty_front m.put (text_of course.events) (m.none_refused report (subst (λ (s : List ℕ). IsRefused s report) (sym cut) a))
 memory_front words r fetched source input old new is cut m course (ran q run p a c) =
     let same : q ≡ r = same_some q r (request_of words) p is in
     let b : IsRun fetched r.steps input run = subst (λ (x : Request). IsRun fetched x.steps input run) same (subst (λ (s : List ℕ). IsRun s q.steps input run) (sym cut) a) in
-    subst (λ (k : Course). IsPrefix m.put (text_of k.events)) (sym c) (m.front input run b)
+    subst (λ (k : Course). IsPrefix m.put (text_of k.events)) (sym c) (m.front run b)
 
 -- a source was fetched and executed
-pub performs_run : (words : List (List ℕ)) (r : Request) (library library' : LibraryState) (input : InputState) (out out' err err' : OutputState) (fetched : List ℕ) (stop : Stop) → Some r ≡ request_of words → FetchesAll library library' r.file fetched → KeepsLibrary library library' → Executes fetched r.steps out out' stop → Performs words (outside library input out err) (outside library' input out' err') stop
-performs_run words r library library' input out out' err err' fetched (Ended Usage) is f keeps x = absurd x
-performs_run words r library library' input out out' err err' fetched (Ended (Refused report)) is f keeps x =
+pub performs_run : (words : List (List ℕ)) (r : Request) (library library' : LibraryState) (input : InputState) (out out' err err' : OutputState) (fetched : List ℕ) (stop : Stop) → Some r ≡ request_of words → FetchesAll library library' r.file fetched → KeepsLibrary library library' → ((input : List ℕ) → Executes fetched r.steps input out out' stop) → Performs words (outside library input out err) (outside library' input out' err') stop
+performs_run words r library library' input out out' err err' fetched (Ended Usage) is f keeps x = absurd (x [])
+performs_run words r library library' input out out' err err' fetched (Ended (Refused report)) is f keeps executes =
+    let x = executes (some_known input.left).0 in
     let s = some_source (library.told r.file) fetched f.within f.bytes in
     record {
       source = s.0;
@@ -70,7 +73,8 @@ performs_run words r library library' input out out' err err' fetched (Ended (Re
         out_count = x.faults;
       };
     }
-performs_run words r library library' input out out' err err' fetched (Ended (RanRun ending)) is f keeps x =
+performs_run words r library library' input out out' err err' fetched (Ended (RanRun ending)) is f keeps executes =
+    let x = executes (some_known input.left).0 in
     let s = some_source (library.told r.file) fetched f.within f.bytes in
     record {
       source = s.0;
@@ -83,7 +87,7 @@ performs_run words r library library' input out out' err err' fetched (Ended (Ra
       puts = x.puts;
       stops = record {
         course = course_of_run x.run;
-        has_course = ran r x.run (sym is) (subst (λ (b : List ℕ). IsRun b r.steps (some_known input.left).0 x.run) s.2 (x.is_run (some_known input.left).0)) refl;
+        has_course = ran r x.run (sym is) (subst (λ (b : List ℕ). IsRun b r.steps (some_known input.left).0 x.run) s.2 x.is_run) refl;
         text = refl;
         unread = λ none. refl;
         ending_is = ap (λ (e : RunEnding). Ran e) (sym x.ending_is);
@@ -92,9 +96,10 @@ performs_run words r library library' input out out' err err' fetched (Ended (Ra
         out_count = x.faults;
       };
     }
-performs_run words r library library' input out out' err err' fetched SourceFault is f keeps x = absurd x
-performs_run words r library library' input out out' err err' fetched InputFault is f keeps x = absurd x
-performs_run words r library library' input out out' err err' fetched OutputFault is f keeps x =
+performs_run words r library library' input out out' err err' fetched SourceFault is f keeps x = absurd (x [])
+performs_run words r library library' input out out' err err' fetched InputFault is f keeps x = absurd (x [])
+performs_run words r library library' input out out' err err' fetched OutputFault is f keeps executes =
+    let x = executes (some_known input.left).0 in
     let s = some_source (library.told r.file) fetched f.within f.bytes in
     record {
       source = s.0;
@@ -107,7 +112,7 @@ performs_run words r library library' input out out' err err' fetched OutputFaul
       puts = x.puts;
       stops = record {
         course = course_of_run x.run;
-        has_course = ran r x.run (sym is) (subst (λ (b : List ℕ). IsRun b r.steps (some_known input.left).0 x.run) s.2 (x.is_run (some_known input.left).0)) refl;
+        has_course = ran r x.run (sym is) (subst (λ (b : List ℕ). IsRun b r.steps (some_known input.left).0 x.run) s.2 x.is_run) refl;
         text = x.front;
         unread = λ none. refl;
         rose = x.rose;
@@ -116,7 +121,8 @@ performs_run words r library library' input out out' err err' fetched OutputFaul
         input_count = refl;
       };
     }
-performs_run words r library library' input out out' err err' fetched NoMemory is f keeps x =
+performs_run words r library library' input out out' err err' fetched NoMemory is f keeps executes =
+    let x = executes (some_known input.left).0 in
     let s = some_source (library.told r.file) fetched f.within f.bytes in
     record {
       source = s.0;

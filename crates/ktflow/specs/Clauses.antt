@@ -3,11 +3,13 @@
 use Rattle.std.specs.Prelude.{◌≡◌, ◌≢◌, ◌⊎◌, ℕ, ◌≤◌, List, [], ◌++◌, length, Bool, true, false, Some, None, IfSome, IsTrue, codes}
 use Rattle.std.specs.Io.KnownBytes.{Keeps, Appends}
 use Rattle.kt_outside.specs.Outside.{Rose}
-use Rattle.ktflow.specs.Course.{Course, Ending, Usage, Refused, Ran, text_of, askings, line_of, status_of, IsPrefix, IsBeforeReading, lines_ended}
+use Rattle.kt_outside.specs.Texts.{IsPrefix}
+use Rattle.kt_mean.specs.Events.{text_of}
+use Rattle.ktflow.specs.Course.{Course, Ending, Usage, Refused, Ran, askings, line_of, status_of, IsBeforeReading, lines_ended}
 use Rattle.ktflow.specs.Language.{IsRefused}
 use Rattle.ktflow.specs.Program.{HasCourse, request_of, file_of, counted}
 use Rattle.ktflow.specs.Invoking.{Outside, HasShape}
-use Rattle.ktflow.specs.declared.ending.RunEnding.TheVariants.{Done, Steps}
+use Rattle.kt_mean.specs.declared.value.RunEnding.TheVariants.{Done, Steps}
 
 -- ---- the premises
 

@@ -1,17 +1,8 @@
 -- A course: what a call asks and prints, in order, and how it ends. This project's own; it knows no language, no pieces and no faults.
 use Rattle.std.specs.Prelude.{◌≡◌, ℕ, suc, List, [], ◌∷◌, ◌++◌, codes, count_by, nat_eq}
-use Rattle.ktflow.specs.declared.ending.RunEnding.{RunEnding}
-use Rattle.ktflow.specs.declared.ending.RunEnding.TheVariants.{Done, Steps}
-
--- `Asked` is the entering of a `readLine`.
-pub data Event : Type 0 where
-  Asked : Event
-  Printed : List ℕ → Event
-
--- the course of a run by the written meaning
-pub record RunCourse : Type 0 where
-  pub events : List Event
-  pub ending : RunEnding
+use Rattle.kt_mean.specs.Events.{Event, Asked, Printed, text_of, RunCourse}
+use Rattle.kt_mean.specs.declared.value.RunEnding.{RunEnding}
+use Rattle.kt_mean.specs.declared.value.RunEnding.TheVariants.{Done, Steps}
 
 -- How a call ends: by words without a shape, by a refusal with its report, or as its run ends.
 pub data Ending : Type 0 where
@@ -31,12 +22,6 @@ ended ending = record { events = []; ending = ending }
 -- the course of a call that runs
 abbrev pub course_of_run : RunCourse → Course
 course_of_run run = record { events = run.events; ending = Ran run.ending }
-
--- the text that is printed
-abbrev pub text_of : List Event → List ℕ
-text_of [] = []
-text_of (Asked ∷ events) = text_of events
-text_of (Printed text ∷ events) = text ++ text_of events
 
 -- how often a `readLine` is entered
 abbrev pub askings : List Event → ℕ
@@ -64,10 +49,6 @@ abbrev pub status_of : Ending → ℕ
 status_of Usage = 2
 status_of (Refused report) = 1
 status_of (Ran ending) = status_of_run ending
-
-pub record IsPrefix (front whole : List ℕ) : Type 0 where
-  pub rest : List ℕ
-  pub whole_is : whole ≡ front ++ rest
 
 -- The text before the entering of the `readLine` that has this number, from 0.
 pub record IsBeforeReading (number : ℕ) (events : List Event) (text : List ℕ) : Type 0 where

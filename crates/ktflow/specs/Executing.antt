@@ -3,10 +3,11 @@
 use Rattle.std.specs.Prelude.{◌≡◌, ℕ, ◌<◌, List, [], length}
 use Rattle.std.specs.Io.KnownBytes.{Appends}
 use Rattle.kt_outside.specs.Outside.{OutputState, Rose}
-use Rattle.ktflow.specs.Course.{RunCourse, text_of, IsPrefix}
+use Rattle.kt_outside.specs.Texts.{IsPrefix}
+use Rattle.kt_mean.specs.Events.{RunCourse, text_of}
 use Rattle.ktflow.specs.Course as course
 use Rattle.ktflow.specs.Language.{IsRefused, IsRun}
-use Rattle.ktflow.specs.declared.ending.RunEnding.{RunEnding}
+use Rattle.kt_mean.specs.declared.value.RunEnding.{RunEnding}
 use Rattle.ktflow.specs.declared.ending.Ending.{Ending}
 use Rattle.ktflow.specs.declared.ending.Ending.TheVariants.{Usage, Refused, Ran}
 use Rattle.ktflow.specs.declared.ending.Stop.{Stop}
@@ -24,18 +25,18 @@ pub record Refuses (source : List ℕ) (old new : OutputState) (report : List �
   pub none_put : Appends old.written new.written []
   pub faults : new.faults ≡ old.faults
 
--- The run came to its end: its whole text is put. The run is the same for every input.
-pub record RunsWhole (source : List ℕ) (steps : ℕ) (old new : OutputState) (ending : RunEnding) : Type 0 where
+-- The run came to its end: its whole text is put.
+pub record RunsWhole (source : List ℕ) (steps : ℕ) (input : List ℕ) (old new : OutputState) (ending : RunEnding) : Type 0 where
   pub run : RunCourse
-  pub is_run : (input : List ℕ) → IsRun source steps input run
+  pub is_run : IsRun source steps input run
   pub ending_is : run.ending ≡ ending
   pub puts : Appends old.written new.written (text_of run.events)
   pub faults : new.faults ≡ old.faults
 
 -- A put failed: a front of the run's text is put, and the output didn't vouch for the whole.
-pub record RunsToFailedPut (source : List ℕ) (steps : ℕ) (old new : OutputState) : Type 0 where
+pub record RunsToFailedPut (source : List ℕ) (steps : ℕ) (input : List ℕ) (old new : OutputState) : Type 0 where
   pub run : RunCourse
-  pub is_run : (input : List ℕ) → IsRun source steps input run
+  pub is_run : IsRun source steps input run
   pub put : List ℕ
   pub puts : Appends old.written new.written put
   pub front : IsPrefix put (text_of run.events)
@@ -43,18 +44,19 @@ pub record RunsToFailedPut (source : List ℕ) (steps : ℕ) (old new : OutputSt
   pub not_vouched : old.vouched < length (text_of run.events)
 
 -- There was no memory: a front of the text is put, of a refused source nothing.
-pub record RunsOutOfMemory (source : List ℕ) (steps : ℕ) (old new : OutputState) : Type 0 where
+pub record RunsOutOfMemory (source : List ℕ) (steps : ℕ) (input : List ℕ) (old new : OutputState) : Type 0 where
   pub put : List ℕ
   pub puts : Appends old.written new.written put
-  pub front : (input : List ℕ) (run : RunCourse) → IsRun source steps input run → IsPrefix put (text_of run.events)
+  pub front : (run : RunCourse) → IsRun source steps input run → IsPrefix put (text_of run.events)
   pub none_refused : (report : List ℕ) → IsRefused source report → put ≡ []
   pub faults : new.faults ≡ old.faults
 
-abbrev pub Executes : List ℕ → ℕ → OutputState → OutputState → Stop → Type 0
-Executes source steps old new (Ended Usage) = ⊥
-Executes source steps old new (Ended (Refused report)) = Refuses source old new report.items
-Executes source steps old new (Ended (Ran ending)) = RunsWhole source steps old new ending
-Executes source steps old new SourceFault = ⊥
-Executes source steps old new InputFault = ⊥
-Executes source steps old new OutputFault = RunsToFailedPut source steps old new
-Executes source steps old new NoMemory = RunsOutOfMemory source steps old new
+-- What the execution did, on this input.
+abbrev pub Executes : List ℕ → ℕ → List ℕ → OutputState → OutputState → Stop → Type 0
+Executes source steps input old new (Ended Usage) = ⊥
+Executes source steps input old new (Ended (Refused report)) = Refuses source old new report.items
+Executes source steps input old new (Ended (Ran ending)) = RunsWhole source steps input old new ending
+Executes source steps input old new SourceFault = ⊥
+Executes source steps input old new InputFault = ⊥
+Executes source steps input old new OutputFault = RunsToFailedPut source steps input old new
+Executes source steps input old new NoMemory = RunsOutOfMemory source steps input old new

@@ -3,9 +3,12 @@
 use Rattle.std.specs.Prelude.{◌≡◌, ℕ, ◌<◌, ◌⊎◌, List, [], ◌++◌, length, Some, IfSome, false, codes}
 use Rattle.std.specs.Io.KnownBytes.{Appends}
 use Rattle.kt_outside.specs.Outside.{LibraryState, InputState, OutputState, KeepsLibrary, Rose}
-use Rattle.ktflow.specs.Course.{Course, text_of, askings, line_of, status_of, IsPrefix, IsBeforeReading, lines_ended}
+use Rattle.kt_outside.specs.Texts.{IsPrefix}
+use Rattle.kt_mean.specs.Events.{text_of}
+use Rattle.ktflow.specs.Course.{Course, askings, line_of, status_of, IsBeforeReading, lines_ended}
 use Rattle.ktflow.specs.Program.{Request, HasCourse, request_of, file_of}
-use Rattle.ktflow.specs.Streams.{TakesBytes, IsKnown, PutsWhole, PutsFront}
+use Rattle.kt_outside.specs.Texts.{PutsWhole, PutsFront}
+use Rattle.ktflow.specs.Streams.{TakesBytes, IsKnown}
 use Rattle.ktflow.specs.Executing.{ending_of}
 use Rattle.ktflow.specs.declared.ending.Ending.{Ending}
 use Rattle.ktflow.specs.declared.ending.Stop.{Stop}

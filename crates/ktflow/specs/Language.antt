@@ -1,8 +1,8 @@
 -- What the program must know of the language: which sources the written rules refuse, and what a run of another one is.
 -- For now the language has one program, the empty source, which prints `x`.
 use Rattle.std.specs.Prelude.{◌≡◌, ◌≢◌, ℕ, List, [], ◌∷◌, codes}
-use Rattle.ktflow.specs.Course.{RunCourse, Printed}
-use Rattle.ktflow.specs.declared.ending.RunEnding.TheVariants.{Done}
+use Rattle.kt_mean.specs.Events.{RunCourse, Printed}
+use Rattle.kt_mean.specs.declared.value.RunEnding.TheVariants.{Done}
 
 -- The written rules refuse the source, with this report.
 pub record IsRefused (source report : List ℕ) : Type 0 where

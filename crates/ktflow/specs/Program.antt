@@ -1,7 +1,8 @@
 -- The whole program, of its words, the bytes of FILE and the bytes of the input. This project's own; of the language it knows only
 -- which sources are refused and what a run is.
 use Rattle.std.specs.Prelude.{◌≡◌, ℕ, ◌+◌, ◌*◌, ◌-◌, List, [], ◌∷◌, length, take, Option, Some, None, codes, bytes_eq, nat_le, ◌&&◌, if◌then◌else◌, option_map}
-use Rattle.ktflow.specs.Course.{Usage, Refused, Course, RunCourse, ended, course_of_run}
+use Rattle.kt_mean.specs.Events.{RunCourse}
+use Rattle.ktflow.specs.Course.{Usage, Refused, Course, ended, course_of_run}
 use Rattle.ktflow.specs.Language.{IsRefused, IsRun}
 
 -- a run of a file with so many steps

@@ -4,14 +4,7 @@ ghost use Rattle.ktflow.specs.Course.{line_of, status_of, line_of_run, status_of
 ghost use Rattle.ktflow.specs.Executing.{ending_of};
 ghost use Rattle.ktflow.specs.Invoking.{line_of_stop, status_of_stop};
 
-/// How a run ends by the written meaning.
-#[derive(Clone, Copy, Debug, PartialEq, Eq)]
-pub enum RunEnding {
-    /// `main` came to its end.
-    Done,
-    /// The steps were used up.
-    Steps,
-}
+use kt_mean::RunEnding;
 
 /// How a call ends.
 #[derive(Debug, Drop)]
@@ -39,23 +32,21 @@ pub enum Stop {
     NoMemory,
 }
 
-impl RunEnding {
-    fn line(self) -> &'static [u8]
-        ensures { result.now ≡ line_of_run self }
-    {
-        match self {
-            RunEnding::Done => b"",
-            RunEnding::Steps => b"limit steps\n",
-        }
+fn line_of_ending(ending: RunEnding) -> &'static [u8]
+    ensures { result.now ≡ line_of_run ending }
+{
+    match ending {
+        RunEnding::Done => b"",
+        RunEnding::Steps => b"limit steps\n",
     }
+}
 
-    fn status(self) -> u8
-        ensures { result ≡ status_of_run self }
-    {
-        match self {
-            RunEnding::Done => 0,
-            RunEnding::Steps => 9,
-        }
+fn status_of_ending(ending: RunEnding) -> u8
+    ensures { result ≡ status_of_run ending }
+{
+    match ending {
+        RunEnding::Done => 0,
+        RunEnding::Steps => 9,
     }
 }
 
@@ -66,7 +57,7 @@ impl Ending {
         match self {
             Ending::Usage => b"usage: ktflow check FILE or ktflow run [--steps N] FILE\n",
             Ending::Refused(report) => report.as_slice(),
-            Ending::Ran(ending) => ending.line(),
+            Ending::Ran(ending) => line_of_ending(*ending),
         }
     }
 
@@ -76,7 +67,7 @@ impl Ending {
         match self {
             Ending::Usage => 2,
             Ending::Refused(_) => 1,
-            Ending::Ran(ending) => ending.status(),
+            Ending::Ran(ending) => status_of_ending(*ending),
         }
     }
 }

@@ -1,9 +1,10 @@
 // Checks a source and runs it.
+ghost use Rattle.std.specs.Prelude.{List, ℕ};
 ghost use Rattle.ktflow.specs.Executing.{Executes};
 
-use crate::ending::{Ending, RunEnding, Stop};
-use crate::puts::put_all;
-use kt_outside::Output;
+use crate::ending::{Ending, Stop};
+use kt_mean::RunEnding;
+use kt_outside::{Output, put_all};
 use std::alloc::Global;
 
 /// Checks the source and, where the written rules refuse nothing, runs it with so many steps, and puts its text on `out`.
@@ -11,7 +12,7 @@ use std::alloc::Global;
 /// Answers the refusal or the run's ending; `OutputFault` where a put failed, after which nothing is put; `NoMemory` where there was no
 /// memory. Before the verdict nothing is put.
 pub(crate) fn execute<O: Output>(alloc: Global, source: &[u8], _steps: u64, out: &mut O) -> Stop
-    ensures { Executes source.now _steps (O.state out.old) (O.state out.new) result }
+    ensures { (input : List ℕ) → Executes source.now _steps input (O.state out.old) (O.state out.new) result }
 {
     if source.is_empty() {
         return match put_all(out, b"x\n") {

@@ -9,9 +9,8 @@
 mod ending;
 mod execute;
 mod program;
-mod puts;
 mod request;
 mod source;
 
-pub use ending::{Ending, RunEnding, Stop};
+pub use ending::{Ending, Stop};
 pub use program::{ktflow, one_course};

@@ -7,10 +7,9 @@ ghost use Rattle.ktflow.specs.Clauses.{IsProgram, HasStatuses, HasOrder, HasFron
 
 use crate::ending::{Ending, Stop};
 use crate::execute::execute;
-use crate::puts::put_all;
 use crate::request::read_request;
 use crate::source::{FetchFault, fetch_source};
-use kt_outside::{Input, Library, Output};
+use kt_outside::{Input, Library, Output, put_all};
 use std::alloc::Global;
 
 /// Does all that the program does with these words, and answers its status.

@@ -6,7 +6,7 @@ use Rattle.ktflow.proofs.program.perform.Goals as goal
 pub returns-in-Ok : goal.returns-in-Ok
 returns-in-Ok g c = λ err err'.
     let source : c.deref.result.now ≡ c.in-Ok.source.items = search rules in
-    let P : List ℕ → Type 0 = λ s. Executes s c.in-Some.request.steps (g.O.Output.state c.args.out.now) (g.O.Output.state c.execute.new.out) c.execute.result in
+    let P : List ℕ → Type 0 = λ s. (input : List ℕ) → Executes s c.in-Some.request.steps input (g.O.Output.state c.args.out.now) (g.O.Output.state c.execute.new.out) c.execute.result in
     performs_run _ _ _ _ _ _ _ _ _ c.in-Ok.source.items c.execute.result c.in-Some.ensures c.in-Ok.ensures.fetches c.in-Ok.ensures.keeps (subst P source c.execute.ensures)
 
 pub returns-in-Err-Failed : goal.returns-in-Err-Failed
