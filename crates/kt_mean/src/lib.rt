@@ -5,5 +5,5 @@
 mod laws;
 mod value;
 
-pub use laws::depth_is_no_part;
+pub use laws::{depth_is_no_part, one_run};
 pub use value::{Limit, RunEnding, Value};
