@@ -1,0 +1,5 @@
+pub mod Chains
+pub mod Routes
+pub mod Members
+pub mod Numbering
+pub mod Along

@@ -1,0 +1,5 @@
+pub mod Findings
+pub mod Marks
+pub mod NameFindings
+pub mod FlowFindings
+pub mod Numbers

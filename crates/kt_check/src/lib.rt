@@ -1,0 +1,2 @@
+//! The rules of the straight-line language.
+#![tactic(auto)]
