@@ -9,8 +9,9 @@ use Rattle.kt_tree.specs.declared.tree.ExprKind.TheVariants as expr
 use Rattle.kt_tree.specs.declared.tree.Stmt.{Stmt}
 use Rattle.kt_tree.specs.declared.tree.StmtKind.{StmtKind}
 use Rattle.kt_tree.specs.declared.tree.StmtKind.TheVariants as stmt
-use Rattle.kt_model.specs.Trees.{Tree, is_val, expr_tree_of, stmt_tree_of, stmt_tree, block_trees}
-use Rattle.kt_model.specs.Graph.{Node, Graph, Effect, Read, Declare, Assign, End, Entry, bare, out_effects, graph_of}
+use Rattle.std.specs.Prelude.{Contains}
+use Rattle.kt_model.specs.Trees.{Tree, Local', Assign', Println', is_val, expr_tree_of, stmt_tree_of, stmt_tree, block_trees}
+use Rattle.kt_model.specs.Graph.{Node, Graph, Effect, Read, Declare, Assign, End, Entry, bare, outside, out_of, out_effects, graph_of}
 use Rattle.kt_model.specs.Paths.{Among, IsPath, pass, passed, assigned}
 use Rattle.kt_model.specs.Flow.{IsUnassigned, IsAssignedTwice}
 use Rattle.kt_model.specs.declared.finding.Finding.{Finding}
@@ -152,28 +153,100 @@ violated_is_found block n path f numbered is_path wrong =
     let front = path_is_front (graph_of ts) (walk ts) (body_is_chain ts) (walk_distinct ts (block_trees_numbers block numbered)) n path is_path in
     subst (λ ns. Among f (findings_along [] ns)) front.chain_is (at_found path n front.rest f wrong)
 
--- ---- along the statements
+-- ---- one statement
 
-abbrev end_node : List Node
-end_node = bare End ∷ []
+-- the effects behind a part of a chain, and its findings
+record Passes (seen : List Effect) (nodes later : List Node) (found : List Finding) (status : ℕ → Bool) : Type 0 where
+  behind : List Effect
+  status_is : status ≡ assigned behind
+  found_is : findings_along seen (nodes ++ later) ≡ found ++ findings_along behind later
 
--- the nodes of these statements of a block, and the end
-abbrev rest_of : List Stmt → List Stmt → List Node
-rest_of block rest = route (map (stmt_tree block) rest) ++ end_node
-
--- two statuses behind a mark
-with_mark-assigned : (status : ℕ → Bool) (seen : List Effect) (y : ℕ) (mark : Bool) → status ≡ assigned seen → (x : ℕ) → with_mark status y mark x ≡ (if nat_eq x y then mark else assigned seen x)
-with_mark-assigned status seen y mark same x = ap (λ (s : ℕ → Bool). if nat_eq x y then mark else s x) same
-
-twice : (b c : Bool) → (if b then true else c) ≡ (if b then true else (if b then false else c))
-twice true c = refl
-twice false c = refl
-
--- the findings of a leaf, and of what follows
-value_along : (seen : List Effect) (n : ℕ) (span : Span) (kind : ExprKind) (status : ℕ → Bool) (ns : List Node) → status ≡ assigned seen
-    → (read : List Effect) × (assigned read ≡ assigned seen) × (findings_along seen (nodes_of (expr_tree_of n span kind) ++ ns) ≡ read_findings status span kind ++ findings_along read ns)
-value_along seen n span (expr.Int k) status ns same = (seen, refl, refl)
-value_along seen n span (expr.Name x) status ns same =
+value_passes : (seen : List Effect) (n : ℕ) (span : Span) (kind : ExprKind) (status : ℕ → Bool) (later : List Node) → status ≡ assigned seen
+    → Passes seen (nodes_of (expr_tree_of n span kind)) later (read_findings status span kind) status
+value_passes seen n span (expr.Int k) status later same = record { behind = seen; status_is = same; found_is = refl }
+value_passes seen n span (expr.Name x) status later same =
     let made : Bool → List Finding = λ b. if b then [] else record { rule = Unassigned; span = span } ∷ [] in
-    (Read x span ∷ seen, refl,
-     ap (λ fs. fs ++ findings_along (Read x span ∷ seen) ns) (append-nil (made (assigned seen x)) ∙ ap (λ (s : ℕ → Bool). made (s x)) (sym same)))
+    record {
+      behind = Read x span ∷ seen;
+      status_is = same;
+      found_is = ap (λ fs. fs ++ findings_along (Read x span ∷ seen) later) (append-nil (made (assigned seen x)) ∙ ap (λ (s : ℕ → Bool). made (s x)) (sym same));
+    }
+
+-- a declaration, and then an assignment, of one variable
+declared_then_assigned : (b c : Bool) → (if b then true else c) ≡ (if b then true else (if b then false else c))
+declared_then_assigned true c = refl
+declared_then_assigned false c = refl
+
+statement_passes : (block : List Stmt) (seen : List Effect) (n : ℕ) (kind : StmtKind) (status : ℕ → Bool) (later : List Node) → status ≡ assigned seen
+    → Passes seen (nodes_of (stmt_tree_of block n kind)) later (flow_findings_at (is_val block) status kind) (assigned_after status kind)
+statement_passes block seen n (stmt.Local v ident None) status later same =
+    record { behind = Declare ident.name ∷ seen; status_is = λ i x. if nat_eq x ident.name then false else same i x; found_is = refl }
+statement_passes block seen n (stmt.Local v ident (Some e)) status later same =
+    let value = expr_tree_of e.number e.span e.kind in
+    let out = out_of outside (Local' n ident.span ident.name value) in
+    let p = value_passes seen e.number e.span e.kind status (out ∷ later) same in
+    record {
+      behind = Assign ident.name false ident.span ∷ Declare ident.name ∷ p.behind;
+      status_is =
+        (λ i x. if nat_eq x ident.name then true else p.status_is i x)
+        ∙ (λ i x. declared_then_assigned (nat_eq x ident.name) (assigned p.behind x) i);
+      found_is = ap (findings_along seen) (append_assoc (nodes_of value) (out ∷ []) later) ∙ p.found_is;
+    }
+statement_passes block seen n (stmt.Assign target e) status later same =
+    let value = expr_tree_of e.number e.span e.kind in
+    let out = out_of outside (Assign' n target.span target.name (is_val block target.name) value) in
+    let p = value_passes seen e.number e.span e.kind status (out ∷ later) same in
+    let made : Bool → List Finding = λ b. if is_val block target.name && b then record { rule = ValTwice; span = target.span } ∷ [] else [] in
+    let behind : List Effect = Assign target.name (is_val block target.name) target.span ∷ p.behind in
+    let reads = value_findings status e in
+    let again : made (assigned p.behind target.name) ++ [] ≡ made (status target.name) =
+      append-nil (made (assigned p.behind target.name)) ∙ ap (λ (s : ℕ → Bool). made (s target.name)) (sym p.status_is) in
+    record {
+      behind = behind;
+      status_is = λ i x. if nat_eq x target.name then true else p.status_is i x;
+      found_is =
+        ap (findings_along seen) (append_assoc (nodes_of value) (out ∷ []) later)
+        ∙ p.found_is
+        ∙ ap (λ fs. reads ++ (fs ++ findings_along behind later)) again
+        ∙ sym (append_assoc reads (made (status target.name)) (findings_along behind later));
+    }
+statement_passes block seen n (stmt.Println e) status later same =
+    let value = expr_tree_of e.number e.span e.kind in
+    let out = out_of outside (Println' n value) in
+    let p = value_passes seen e.number e.span e.kind status (out ∷ later) same in
+    record {
+      behind = p.behind;
+      status_is = p.status_is;
+      found_is = ap (findings_along seen) (append_assoc (nodes_of value) (out ∷ []) later) ∙ p.found_is;
+    }
+
+-- ---- all statements
+
+flow_findings-along : (block rest : List Stmt) (seen : List Effect) (status : ℕ → Bool) → status ≡ assigned seen
+    → findings_along seen (route (map (stmt_tree block) rest) ++ bare End ∷ []) ≡ flow_findings (is_val block) status rest
+flow_findings-along block [] seen status same = refl
+flow_findings-along block (s ∷ rest) seen status same =
+    let later = route (map (stmt_tree block) rest) in
+    let nodes = nodes_of (stmt_tree block s) in
+    let p = statement_passes block seen s.number s.kind status (later ++ bare End ∷ []) same in
+    ap (findings_along seen) (append_assoc nodes later (bare End ∷ []))
+    ∙ p.found_is
+    ∙ ap (λ fs. flow_findings_at (is_val block) status s.kind ++ fs) (flow_findings-along block rest p.behind (assigned_after status s.kind) p.status_is)
+
+-- nothing is marked
+abbrev pub unmarked : ℕ → Bool
+unmarked x = false
+
+-- The findings of the walk are the violated rules on variables.
+pub flow_exact : (block : List Stmt) (found : List Finding) → IsNumbered block → found ≡ flow_findings (is_val block) unmarked block → AreExactly (IsFlowFinding block) found
+flow_exact block found numbered is =
+    let same : found ≡ findings_along [] (chain_of block) = is ∙ sym (flow_findings-along block block [] unmarked refl) in
+    let has : (f : Finding) → Among f (findings_along [] (chain_of block)) → Contains found f =
+      λ f h. contains_among f found (subst (λ (fs : List Finding). Among f fs) (sym same) h) in
+    record {
+      each = λ f h. elim h [
+        | inl u ↦ has f (violated_is_found block u.node u.path f numbered u.is_path (reads u.variable u.at u.reads u.unassigned u.finding))
+        | inr u ↦ has f (violated_is_found block u.node u.path f numbered u.is_path (assigns u.variable u.at u.assigns u.before u.finding))
+      ];
+      only = λ f h. found_is_violated block f (found_at [] (chain_of block) f (subst (λ (fs : List Finding). Among f fs) same (among_contains f found h)));
+    }

@@ -3,3 +3,4 @@ pub mod Routes
 pub mod Members
 pub mod Numbering
 pub mod Along
+pub mod NamesExact
