@@ -4,3 +4,6 @@ pub mod Members
 pub mod Numbering
 pub mod Along
 pub mod NamesExact
+pub mod PlaceOrder
+pub mod LeastFinding
+pub mod WalkSteps

@@ -1,5 +1,5 @@
 -- Lists of findings against rules. These are this project's own.
-use Rattle.std.specs.Prelude.{◌≢◌, ◌⊎◌, List, Contains}
+use Rattle.std.specs.Prelude.{◌≢◌, ◌⊎◌, List, Contains, Option, Some, None}
 use Rattle.std.specs.declared.cmp.Ordering.TheVariants as ordering
 use Rattle.kt_tree.specs.declared.tree.Stmt.{Stmt}
 use Rattle.kt_model.specs.Trees.{block_trees}
@@ -26,3 +26,17 @@ pub record AreExactly (IsOne : Finding → Type 0) (found : List Finding) : Type
 pub record IsLeast (found : List Finding) (f : Finding) : Type 0 where
   pub one : Contains found f
   pub least : (g : Finding) → Contains found g → by_place f g ≢ ordering.Greater
+
+-- a finding of these rules, and none of them stands before it
+pub record IsFirstOf (IsOne : Finding → Type 0) (f : Finding) : Type 0 where
+  pub one : IsOne f
+  pub first : (g : Finding) → IsOne g → by_place f g ≢ ordering.Greater
+
+-- no rule of these is violated
+pub record HasNone (IsOne : Finding → Type 0) : Type 0 where
+  pub none : (f : Finding) → IsOne f → ⊥
+
+-- the first finding of a block; the flow is looked at only where the names are in order
+abbrev pub IsFirstInBlock : List Stmt → Option Finding → Type 0
+IsFirstInBlock block None = HasNone (IsNameFinding block) × HasNone (IsFlowFinding block)
+IsFirstInBlock block (Some f) = IsFirstOf (IsNameFinding block) f ⊎ (HasNone (IsNameFinding block) × IsFirstOf (IsFlowFinding block) f)
