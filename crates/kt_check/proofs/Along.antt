@@ -1,27 +1,23 @@
 -- The findings along a chain of nodes are the violated rules on variables.
-use Rattle.std.proofs.Common.{◌≡◌, ℕ, Bool, true, false, ◌&&◌, List, [], ◌∷◌, ◌++◌, map, Some, None, ◌⊎◌, inl, inr, refl, sym, ap, ◌∙◌, subst, append_assoc, nat_eq, if◌then◌else◌}
+use Rattle.std.proofs.Common.{◌≡◌, ℕ, Bool, true, false, ◌&&◌, List, [], ◌∷◌, ◌++◌, map, Some, None, inl, inr, refl, sym, ap, ◌∙◌, subst, append_assoc, nat_eq, if◌then◌else◌}
 use Rattle.std.proofs.lemmas.List.{append-nil}
 use Rattle.kt_tree.specs.declared.token.Span.{Span}
-use Rattle.kt_tree.specs.declared.tree.Ident.{Ident}
-use Rattle.kt_tree.specs.declared.tree.Expr.{Expr}
 use Rattle.kt_tree.specs.declared.tree.ExprKind.{ExprKind}
 use Rattle.kt_tree.specs.declared.tree.ExprKind.TheVariants as expr
 use Rattle.kt_tree.specs.declared.tree.Stmt.{Stmt}
 use Rattle.kt_tree.specs.declared.tree.StmtKind.{StmtKind}
 use Rattle.kt_tree.specs.declared.tree.StmtKind.TheVariants as stmt
 use Rattle.std.specs.Prelude.{Contains}
-use Rattle.kt_model.specs.Trees.{Tree, Local', Assign', Println', is_val, expr_tree_of, stmt_tree_of, stmt_tree, block_trees}
-use Rattle.kt_model.specs.Graph.{Node, Graph, Effect, Read, Declare, Assign, End, Entry, bare, outside, out_of, out_effects, graph_of}
+use Rattle.kt_model.specs.Trees.{Local', Assign', Println', is_val, expr_tree_of, stmt_tree_of, stmt_tree, block_trees}
+use Rattle.kt_model.specs.Graph.{Node, Effect, Read, Declare, Assign, End, Entry, bare, outside, out_of, graph_of}
 use Rattle.kt_model.specs.Paths.{Among, IsPath, pass, passed, assigned}
-use Rattle.kt_model.specs.Flow.{IsUnassigned, IsAssignedTwice}
 use Rattle.kt_model.specs.declared.finding.Finding.{Finding}
 use Rattle.kt_model.specs.declared.finding.Rule.TheVariants.{Unassigned, ValTwice}
 use Rattle.kt_check.specs.Findings.{IsFlowFinding, AreExactly}
-use Rattle.kt_check.specs.Marks.{with_mark}
 use Rattle.kt_check.specs.Numbers.{IsNumbered}
-use Rattle.kt_check.specs.FlowFindings.{read_findings, value_findings, target_findings, flow_findings_at, assigned_after, flow_findings}
+use Rattle.kt_check.specs.FlowFindings.{read_findings, value_findings, flow_findings_at, assigned_after, flow_findings}
 use Rattle.kt_check.proofs.Members.{contains_among, among_contains}
-use Rattle.kt_check.proofs.Chains.{among_left, among_right, among_either, Distinct, onto, path_is_front, front_is_path}
+use Rattle.kt_check.proofs.Chains.{among_left, among_right, among_either, onto, path_is_front, front_is_path}
 use Rattle.kt_check.proofs.Routes.{nodes_of, route, walk, body_is_chain, walk_distinct}
 use Rattle.kt_check.proofs.Numbering.{block_trees_numbers}
 
@@ -123,7 +119,7 @@ found_onto (n ∷ front) ns f h = found_onto front (n ∷ ns) f (among_right f (
 at_found : (front : List Node) (n : Node) (rest : List Node) (f : Finding) → IsWrong (passed front) n.effects f → Among f (findings_along [] (onto front (n ∷ rest)))
 at_found front n rest f h =
     found_onto front (n ∷ rest) f
-      (among_left f (node_findings (passed front) n.effects) (findings_along (passed (n ∷ front)) rest) (wrong_node (passed front) n.effects f h))
+    (among_left f (node_findings (passed front) n.effects) (findings_along (passed (n ∷ front)) rest) (wrong_node (passed front) n.effects f h))
 
 -- ---- the findings of a body
 
@@ -140,6 +136,7 @@ found_is_violated block f h = cases h.wrong
   where
     is_path : IsPath (graph_of (block_trees block)) (h.node ∷ h.front)
     is_path = path_to block h.node h.front h.rest h.chain_is
+
     cases : IsWrong (passed h.front) h.node.effects f → IsFlowFinding block f
     cases (reads x at among k p) =
         inl (record { node = h.node; path = h.front; is_path = is_path; variable = x; at = at; reads = among; unassigned = k; finding = p })
@@ -188,8 +185,8 @@ statement_passes block seen n (stmt.Local v ident (Some e)) status later same =
     record {
       behind = Assign ident.name false ident.span ∷ Declare ident.name ∷ p.behind;
       status_is =
-        (λ i x. if nat_eq x ident.name then true else p.status_is i x)
-        ∙ (λ i x. declared_then_assigned (nat_eq x ident.name) (assigned p.behind x) i);
+          (λ i x. if nat_eq x ident.name then true else p.status_is i x)
+          ∙ (λ i x. declared_then_assigned (nat_eq x ident.name) (assigned p.behind x) i);
       found_is = ap (findings_along seen) (append_assoc (nodes_of value) (out ∷ []) later) ∙ p.found_is;
     }
 statement_passes block seen n (stmt.Assign target e) status later same =
@@ -200,15 +197,15 @@ statement_passes block seen n (stmt.Assign target e) status later same =
     let behind : List Effect = Assign target.name (is_val block target.name) target.span ∷ p.behind in
     let reads = value_findings status e in
     let again : made (assigned p.behind target.name) ++ [] ≡ made (status target.name) =
-      append-nil (made (assigned p.behind target.name)) ∙ ap (λ (s : ℕ → Bool). made (s target.name)) (sym p.status_is) in
+    append-nil (made (assigned p.behind target.name)) ∙ ap (λ (s : ℕ → Bool). made (s target.name)) (sym p.status_is) in
     record {
       behind = behind;
       status_is = λ i x. if nat_eq x target.name then true else p.status_is i x;
       found_is =
-        ap (findings_along seen) (append_assoc (nodes_of value) (out ∷ []) later)
-        ∙ p.found_is
-        ∙ ap (λ fs. reads ++ (fs ++ findings_along behind later)) again
-        ∙ sym (append_assoc reads (made (status target.name)) (findings_along behind later));
+          ap (findings_along seen) (append_assoc (nodes_of value) (out ∷ []) later)
+          ∙ p.found_is
+          ∙ ap (λ fs. reads ++ (fs ++ findings_along behind later)) again
+          ∙ sym (append_assoc reads (made (status target.name)) (findings_along behind later));
     }
 statement_passes block seen n (stmt.Println e) status later same =
     let value = expr_tree_of e.number e.span e.kind in
@@ -242,7 +239,7 @@ pub flow_exact : (block : List Stmt) (found : List Finding) → IsNumbered block
 flow_exact block found numbered is =
     let same : found ≡ findings_along [] (chain_of block) = is ∙ sym (flow_findings-along block block [] unmarked refl) in
     let has : (f : Finding) → Among f (findings_along [] (chain_of block)) → Contains found f =
-      λ f h. contains_among f found (subst (λ (fs : List Finding). Among f fs) (sym same) h) in
+    λ f h. contains_among f found (subst (λ (fs : List Finding). Among f fs) (sym same) h) in
     record {
       each = λ f h. elim h [
         | inl u ↦ has f (violated_is_found block u.node u.path f numbered u.is_path (reads u.variable u.at u.reads u.unassigned u.finding))

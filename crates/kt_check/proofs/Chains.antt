@@ -1,7 +1,7 @@
 -- Chains of nodes, each of which leads to the next, and the paths along them.
-use Rattle.std.proofs.Common.{◌≡◌, ℕ, Bool, List, [], ◌∷◌, ◌++◌, ◌⊎◌, inl, inr, refl, sym, ap, ◌∙◌, subst, append_assoc}
-use Rattle.kt_model.specs.Graph.{Node, Edge, Graph, Effect}
-use Rattle.kt_model.specs.Paths.{Among, HasEdge, IsPath, passed, pass}
+use Rattle.std.proofs.Common.{◌≡◌, List, [], ◌∷◌, ◌++◌, ◌⊎◌, inl, inr, refl, sym, ap, ◌∙◌, subst}
+use Rattle.kt_model.specs.Graph.{Node, Edge, Graph}
+use Rattle.kt_model.specs.Paths.{Among, IsPath}
 
 -- ---- members of lists
 
@@ -33,9 +33,10 @@ Apart {X} xs ys = (x : X) → Among x xs → Among x ys → ⊥
 
 pub distinct_append : {X : Type 0} (xs ys : List X) → Distinct xs → Distinct ys → Apart xs ys → Distinct (xs ++ ys)
 distinct_append [] ys d e apart = e
-distinct_append (x ∷ xs) ys d e apart =
-    (λ h. elim (among_either x xs ys h) [ inl left ↦ d.0 left | inr right ↦ apart x (inl refl) right ],
-     distinct_append xs ys d.1 e (λ y h. apart y (inr h)))
+distinct_append (x ∷ xs) ys d e apart = (
+  λ h. elim (among_either x xs ys h) [ inl left ↦ d.0 left | inr right ↦ apart x (inl refl) right ],
+  distinct_append xs ys d.1 e (λ y h. apart y (inr h)),
+)
 
 -- ---- ends of lists
 
@@ -145,6 +146,6 @@ path_is_front g later chain distinct n (m ∷ path) h =
     let before = path_is_front g later chain distinct m path h.1 in
     let step = has_step m n (g.entry ∷ later) (subst (λ es. Among (m, n) es) chain.edges_are h.0.among) in
     let end : Ends (g.entry ∷ later) (m ∷ before.rest) =
-      subst (λ w. Ends w (m ∷ before.rest)) before.chain_is (ends_onto path (m ∷ before.rest) (m ∷ before.rest) (ends_itself (m ∷ before.rest))) in
+    subst (λ w. Ends w (m ∷ before.rest)) before.chain_is (ends_onto path (m ∷ before.rest) (m ∷ before.rest) (ends_itself (m ∷ before.rest))) in
     let next : n ∷ step.rest ≡ before.rest = ends_unique (g.entry ∷ later) m (n ∷ step.rest) before.rest distinct step.end end in
     record { rest = step.rest; chain_is = ap (λ r. onto path (m ∷ r)) next ∙ before.chain_is }

@@ -7,3 +7,4 @@ pub mod NamesExact
 pub mod PlaceOrder
 pub mod LeastFinding
 pub mod WalkSteps
+pub mod Phases

@@ -1,5 +1,5 @@
 -- `Contains`, by index, and `Among`, by recursion.
-use Rattle.std.proofs.Common.{◌≡◌, ℕ, zero, suc, ◌<◌, List, [], ◌∷◌, length, get_or, ◌⊎◌, inl, inr, refl, sym, arith}
+use Rattle.std.proofs.Common.{◌≡◌, ℕ, zero, suc, ◌<◌, List, [], ◌∷◌, length, get_or, inl, inr, sym, arith}
 use Rattle.std.specs.Prelude.{Contains}
 use Rattle.kt_model.specs.Paths.{Among}
 

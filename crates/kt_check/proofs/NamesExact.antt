@@ -1,5 +1,5 @@
 -- The findings of the walk along the statements are the violated rules on names.
-use Rattle.std.proofs.Common.{◌≡◌, ℕ, Bool, true, false, ◌||◌, List, [], ◌∷◌, ◌++◌, ◌⊎◌, inl, inr, refl, sym, ap, ◌∙◌, subst, append_assoc, nat_eq, if◌then◌else◌}
+use Rattle.std.proofs.Common.{◌≡◌, ℕ, Bool, true, false, ◌||◌, List, [], ◌∷◌, ◌++◌, inl, inr, refl, sym, ap, ◌∙◌, subst, append_assoc, nat_eq, if◌then◌else◌}
 use Rattle.std.specs.Prelude.{Contains, ◌==◌}
 use Rattle.std.specs.List.{list_any}
 use Rattle.std.proofs.lemmas.List.{append-nil}
@@ -13,7 +13,6 @@ use Rattle.kt_model.specs.Paths.{Among}
 use Rattle.kt_model.specs.declared.finding.Finding.{Finding}
 use Rattle.kt_model.specs.declared.finding.Rule.TheVariants.{UnknownName, DuplicateLocal}
 use Rattle.kt_check.specs.Findings.{IsNameFinding, AreExactly}
-use Rattle.kt_check.specs.Marks.{with_mark}
 use Rattle.kt_check.specs.NameFindings.{unknown_findings, duplicate_findings, name_findings_at, declared_after, name_findings}
 use Rattle.kt_check.proofs.Members.{contains_among, among_contains}
 use Rattle.kt_check.proofs.Chains.{among_left, among_right, among_either}
@@ -69,7 +68,7 @@ found_unknown declared [] f i h k p = absurd h
 found_unknown declared (j ∷ rest) f i (inl same) k p =
     let g : Finding = record { rule = UnknownName; span = j.span } in
     among_left f (if declared j.name then [] else g ∷ []) (unknown_findings declared rest)
-      (at_false (declared j.name) f g (ap (λ (n : Ident). declared n.name) (sym same) ∙ k) (p ∙ ap (λ (n : Ident). record { rule = UnknownName; span = n.span }) same))
+    (at_false (declared j.name) f g (ap (λ (n : Ident). declared n.name) (sym same) ∙ k) (p ∙ ap (λ (n : Ident). record { rule = UnknownName; span = n.span }) same))
 found_unknown declared (j ∷ rest) f i (inr there) k p =
     let g : Finding = record { rule = UnknownName; span = j.span } in
     among_right f (if declared j.name then [] else g ∷ []) (unknown_findings declared rest) (found_unknown declared rest f i there k p)
@@ -88,7 +87,7 @@ found_duplicate declared [] f i h k p = absurd h
 found_duplicate declared (j ∷ rest) f i (inl same) k p =
     let g : Finding = record { rule = DuplicateLocal; span = j.span } in
     among_left f (if declared j.name then g ∷ [] else []) (duplicate_findings declared rest)
-      (at_true (declared j.name) f g (ap (λ (n : Ident). declared n.name) (sym same) ∙ k) (p ∙ ap (λ (n : Ident). record { rule = DuplicateLocal; span = n.span }) same))
+    (at_true (declared j.name) f g (ap (λ (n : Ident). declared n.name) (sym same) ∙ k) (p ∙ ap (λ (n : Ident). record { rule = DuplicateLocal; span = n.span }) same))
 found_duplicate declared (j ∷ rest) f i (inr there) k p =
     let g : Finding = record { rule = DuplicateLocal; span = j.span } in
     among_right f (if declared j.name then g ∷ [] else []) (duplicate_findings declared rest) (found_duplicate declared rest f i there k p)
@@ -143,48 +142,48 @@ found_violated block before (s ∷ rest) f split h =
     let duplicate = duplicate_findings declared (declared_by s.kind) in
     elim (among_either f (name_findings_at declared s.kind) (name_findings (declared_after declared s.kind) rest) h) [
       | inl now ↦ elim (among_either f unknown duplicate now) [
-          | inl used ↦ unknown_violated block before s rest f split (unknown_found declared (uses_of s.kind) f used)
-          | inr again ↦ duplicate_violated block before s rest f split (duplicate_found declared (declared_by s.kind) f again)
-        ]
+        | inl used ↦ unknown_violated block before s rest f split (unknown_found declared (uses_of s.kind) f used)
+        | inr again ↦ duplicate_violated block before s rest f split (duplicate_found declared (declared_by s.kind) f again)
+      ]
       | inr later ↦
           found_violated block (before ++ s ∷ []) rest f (split ∙ sym (append_assoc before (s ∷ []) rest))
-            (subst (λ (d : ℕ → Bool). Among f (name_findings d rest)) (after_is before s) later)
+          (subst (λ (d : ℕ → Bool). Among f (name_findings d rest)) (after_is before s) later)
     ]
 
 -- A finding at a statement is one of the walk that comes there.
 found_later : (known before : List Stmt) (s : Stmt) (after : List Stmt) (f : Finding) → Among f (name_findings_at (is_declared (known ++ before)) s.kind) → Among f (name_findings (is_declared known) (before ++ s ∷ after))
 found_later known [] s after f h =
     among_left f (name_findings_at (is_declared known) s.kind) (name_findings (declared_after (is_declared known) s.kind) after)
-      (subst (λ (b : List Stmt). Among f (name_findings_at (is_declared b) s.kind)) (append-nil known) h)
+    (subst (λ (b : List Stmt). Among f (name_findings_at (is_declared b) s.kind)) (append-nil known) h)
 found_later known (t ∷ before) s after f h =
     among_right f (name_findings_at (is_declared known) t.kind) (name_findings (declared_after (is_declared known) t.kind) (before ++ s ∷ after))
-      (subst (λ (d : ℕ → Bool). Among f (name_findings d (before ++ s ∷ after))) (sym (after_is known t))
-        (found_later (known ++ t ∷ []) before s after f
-          (subst (λ (b : List Stmt). Among f (name_findings_at (is_declared b) s.kind)) (sym (append_assoc known (t ∷ []) before)) h)))
+    (subst (λ (d : ℕ → Bool). Among f (name_findings d (before ++ s ∷ after))) (sym (after_is known t))
+    (found_later (known ++ t ∷ []) before s after f
+    (subst (λ (b : List Stmt). Among f (name_findings_at (is_declared b) s.kind)) (sym (append_assoc known (t ∷ []) before)) h)))
 
 unknown_is_found : (block : List Stmt) (f : Finding) → IsUnknownName block f → Among f (name_findings unmarked block)
 unknown_is_found block f u =
     let declared = is_declared u.before in
     let kind = u.statement.kind in
     subst (λ (b : List Stmt). Among f (name_findings unmarked b)) (sym u.block_is)
-      (found_later [] u.before u.statement u.after f
-        (among_left f (unknown_findings declared (uses_of kind)) (duplicate_findings declared (declared_by kind))
-          (found_unknown declared (uses_of kind) f u.ident (among_contains u.ident (uses_of kind) u.used) u.undeclared u.finding)))
+    (found_later [] u.before u.statement u.after f
+    (among_left f (unknown_findings declared (uses_of kind)) (duplicate_findings declared (declared_by kind))
+    (found_unknown declared (uses_of kind) f u.ident (among_contains u.ident (uses_of kind) u.used) u.undeclared u.finding)))
 
 duplicate_is_found : (block : List Stmt) (f : Finding) → IsDuplicateLocal block f → Among f (name_findings unmarked block)
 duplicate_is_found block f u =
     let declared = is_declared u.before in
     let kind = u.statement.kind in
     subst (λ (b : List Stmt). Among f (name_findings unmarked b)) (sym u.block_is)
-      (found_later [] u.before u.statement u.after f
-        (among_right f (unknown_findings declared (uses_of kind)) (duplicate_findings declared (declared_by kind))
-          (found_duplicate declared (declared_by kind) f u.ident (among_contains u.ident (declared_by kind) u.declared) u.again u.finding)))
+    (found_later [] u.before u.statement u.after f
+    (among_right f (unknown_findings declared (uses_of kind)) (duplicate_findings declared (declared_by kind))
+    (found_duplicate declared (declared_by kind) f u.ident (among_contains u.ident (declared_by kind) u.declared) u.again u.finding)))
 
 -- The findings of the walk are the violated rules on names.
 pub names_exact : (block : List Stmt) (found : List Finding) → found ≡ name_findings unmarked block → AreExactly (IsNameFinding block) found
 names_exact block found is =
     let has : (f : Finding) → Among f (name_findings unmarked block) → Contains found f =
-      λ f h. contains_among f found (subst (λ (fs : List Finding). Among f fs) (sym is) h) in
+    λ f h. contains_among f found (subst (λ (fs : List Finding). Among f fs) (sym is) h) in
     record {
       each = λ f h. elim h [ inl u ↦ has f (unknown_is_found block f u) | inr u ↦ has f (duplicate_is_found block f u) ];
       only = λ f h. found_violated block [] block f refl (subst (λ (fs : List Finding). Among f fs) is (among_contains f found h));

@@ -1,5 +1,5 @@
 -- What is read is numbered in preorder from 1.
-use Rattle.std.proofs.Common.{◌≡◌, ℕ, zero, suc, ◌+◌, Bool, true, false, List, [], ◌∷◌, ◌++◌, length, map, Option, Some, None, refl, sym, ap, ◌∙◌, subst, if◌then◌else◌, arith}
+use Rattle.std.proofs.Common.{◌≡◌, ℕ, zero, suc, ◌+◌, Bool, true, false, List, [], ◌∷◌, length, map, Some, None, refl, sym, ap, subst, if◌then◌else◌}
 use Rattle.kt_tree.specs.declared.token.Span.{Span}
 use Rattle.kt_tree.specs.declared.word.Word.{Word}
 use Rattle.kt_tree.specs.declared.word.WordKind.{WordKind}
@@ -13,7 +13,7 @@ use Rattle.kt_tree.specs.declared.tree.StmtKind.{StmtKind}
 use Rattle.kt_tree.specs.declared.tree.StmtKind.TheVariants as stmt
 use Rattle.kt_tree.specs.StraightWords.{words_of}
 use Rattle.kt_tree.specs.StraightGrammar.{Reading, Reads, Misfit, nowhere, and_then, expected, same_kind, a, next, name, valued, operand, ended, local, from_to, initialised, behind_type, behind_name, declaration, assignment, print_call, begun, statement, trees_in, statements, body, file, reading_of}
-use Rattle.kt_model.specs.Trees.{Tree, expr_tree_of, expr_tree, stmt_tree_of, stmt_tree, block_trees}
+use Rattle.kt_model.specs.Trees.{expr_tree_of, stmt_tree_of, stmt_tree, block_trees}
 use Rattle.kt_check.specs.Numbers.{IsPartNumber, AreNumberedFrom, IsNumbered}
 use Rattle.kt_check.proofs.Routes.{size, IsNumberedTree, AreNumberedTrees}
 
@@ -71,7 +71,7 @@ initialised_number n start v ident ws s rest h =
     let e = parts.first in
     let made = local n start e.span.end v ident (Some e) in
     along n made s (ended_same made parts.between s rest parts.reads_second)
-      (record { statement = refl; part = operand_number (n + 1) ws e parts.between parts.reads_first })
+    (record { statement = refl; part = operand_number (n + 1) ws e parts.between parts.reads_first })
 
 declared_number : (n start end : ℕ) (v : Bool) (ident : Ident) (ws : List Word) (s : Stmt) (rest : List Word) → ended (local n start end v ident None) ws ≡ Reads s rest → IsNumberedStmt n s
 declared_number n start end v ident ws s rest h =
@@ -107,7 +107,7 @@ assignment_number n target ws s rest h =
     let sign = both (expected (next word.Equals) ws) (λ sign rest. and_then (operand (n + 1) rest) (λ e rest. ended (made e) rest)) s rest h in
     let value = both (operand (n + 1) sign.between) (λ e rest. ended (made e) rest) s rest sign.reads_second in
     along n (made value.first) s (ended_same (made value.first) value.between s rest value.reads_second)
-      (record { statement = refl; part = operand_number (n + 1) sign.between value.first value.between value.reads_first })
+    (record { statement = refl; part = operand_number (n + 1) sign.between value.first value.between value.reads_first })
 
 print_call_number : (n start : ℕ) (ws : List Word) (s : Stmt) (rest : List Word) → print_call n start ws ≡ Reads s rest → IsNumberedStmt n s
 print_call_number n start ws s rest h =
@@ -118,7 +118,7 @@ print_call_number n start ws s rest h =
     let e = value.first in
     let close = both (expected (next word.CloseParenthesis) value.between) (λ close rest. ended (made e close) rest) s rest value.reads_second in
     along n (made e close.first) s (ended_same (made e close.first) close.between s rest close.reads_second)
-      (record { statement = refl; part = operand_number (n + 1) begin.between e value.between value.reads_first })
+    (record { statement = refl; part = operand_number (n + 1) begin.between e value.between value.reads_first })
 
 begun_number : (n : ℕ) (kind : WordKind) (span : Span) (ws : List Word) (s : Stmt) (rest : List Word) → begun n kind span ws ≡ Reads s rest → IsNumberedStmt n s
 begun_number n word.Val span ws s rest h = declaration_number n span.start true ws s rest h
@@ -146,7 +146,7 @@ statements_case k n false now later block rest others_are h =
     let numbered = statement_number n now s one.between one.reads_first in
     let all : s ∷ others.first ≡ block = same_read (s ∷ others.first) block others.between rest others.reads_second in
     subst (AreNumberedFrom n) all
-      (numbered.statement, numbered.part, others_are (n + trees_in s.kind) one.between others.first others.between others.reads_first)
+    (numbered.statement, numbered.part, others_are (n + trees_in s.kind) one.between others.first others.between others.reads_first)
 
 statements_numbers : (k n : ℕ) (ws : List Word) (block : List Stmt) (rest : List Word) → statements k n ws ≡ Reads block rest → AreNumberedFrom n block
 unfolding statements
@@ -161,7 +161,7 @@ body_numbers ws block rest h =
     let found = both (statements (length ws) 1 ws) last block rest h in
     let end = both (expected (a word.End) found.between) (λ end rest. Reads found.first rest) block rest found.reads_second in
     subst (AreNumberedFrom 1) (same_read found.first block end.between rest end.reads_second)
-      (statements_numbers (length ws) 1 ws found.first found.between found.reads_first)
+    (statements_numbers (length ws) 1 ws found.first found.between found.reads_first)
 
 -- what stands behind a token
 behind : (fits : Word → Bool) (f : List Word → Reading (List Stmt)) (ws : List Word) (block : List Stmt) (rest : List Word)
@@ -172,10 +172,10 @@ file_numbers : (ws : List Word) (block : List Stmt) (rest : List Word) → file 
 unfolding file
 file_numbers ws block rest =
     behind (a word.Fun) _ ws block rest (λ ws.
-      behind (a word.Main) _ ws block rest (λ ws.
-        behind (a word.OpenParenthesis) _ ws block rest (λ ws.
-          behind (a word.CloseParenthesis) _ ws block rest (λ ws.
-            behind (a word.OpenBrace) body ws block rest (λ ws. body_numbers ws block rest)))))
+    behind (a word.Main) _ ws block rest (λ ws.
+    behind (a word.OpenParenthesis) _ ws block rest (λ ws.
+    behind (a word.CloseParenthesis) _ ws block rest (λ ws.
+    behind (a word.OpenBrace) body ws block rest (λ ws. body_numbers ws block rest)))))
 
 pub reading_numbers : (source : List ℕ) (block : List Stmt) (rest : List Word) → reading_of source ≡ Reads block rest → IsNumbered block
 reading_numbers source block rest h = record { from_one = file_numbers (words_of source) block rest h }
@@ -205,9 +205,10 @@ stmt_tree_size block n (stmt.Println e) = ap (λ k. 1 + k) (expr_tree_size e.num
 trees_numbers : (block rest : List Stmt) (low : ℕ) → AreNumberedFrom low rest → AreNumberedTrees low (map (stmt_tree block) rest)
 trees_numbers block [] low h = tt
 trees_numbers block (s ∷ rest) low h =
-    let trees = map (stmt_tree block) rest in
-    (stmt_tree_number block low s.number s.kind h.0 h.1,
-     subst (λ k. AreNumberedTrees (low + k) trees) (sym (stmt_tree_size block s.number s.kind)) (trees_numbers block rest (low + trees_in s.kind) h.2))
+    let trees = map (stmt_tree block) rest in (
+      stmt_tree_number block low s.number s.kind h.0 h.1,
+      subst (λ k. AreNumberedTrees (low + k) trees) (sym (stmt_tree_size block s.number s.kind)) (trees_numbers block rest (low + trees_in s.kind) h.2),
+    )
 
 pub block_trees_numbers : (block : List Stmt) → IsNumbered block → AreNumberedTrees 1 (block_trees block)
 block_trees_numbers block h = trees_numbers block block 1 h.from_one

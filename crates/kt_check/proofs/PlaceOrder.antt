@@ -1,15 +1,11 @@
 -- The order of findings is total, and tells any two of them apart.
-use Rattle.std.proofs.Common.{◌≡◌, ◌≢◌, ℕ, Bool, true, false, List, [], ◌∷◌, ◌++◌, inl, inr, refl, sym, ap, ◌∙◌, subst, Ordering, Less, Equal, Greater}
-use Rattle.std.specs.Prelude.{Contains}
-use Rattle.std.specs.Ordering.{nat_cmp, on, then_cmp, ordering_then, ordering_reverse, is_lt}
+use Rattle.std.proofs.Common.{◌≡◌, ◌≢◌, true, refl, sym, ap, ◌∙◌, Ordering, Less, Equal, Greater}
+use Rattle.std.specs.Ordering.{nat_cmp, ordering_then, ordering_reverse}
 use Rattle.std.specs.Cmp.{IsTotalOrder}
-use Rattle.std.specs.Cmp.Lexicographic.{slice_cmp}
 use Rattle.std.specs.FinMap.{nat_cmp-IsAntisymmetric, slice_cmp-IsAntisymmetric}
 use Rattle.std.specs.Str.{bytes_eq}
 use Rattle.std.proofs.lemmas.Bool.{false≢true}
-use Rattle.std.proofs.lemmas.Cmp.{then_total, on_total, nat_cmp_total, nat_list_cmp_total, upto, tied_itself}
-use Rattle.std.proofs.lemmas.List.Elements.{Contains-append_cases, Contains-append_left, Contains-push}
-use Rattle.kt_tree.specs.declared.token.Span.{Span}
+use Rattle.std.proofs.lemmas.Cmp.{then_total, on_total, nat_cmp_total, nat_list_cmp_total, tied_itself}
 use Rattle.kt_model.specs.Codes.{code_of}
 use Rattle.kt_model.specs.Order.{by_place}
 use Rattle.kt_model.specs.declared.finding.Finding.{Finding}
@@ -19,7 +15,7 @@ use Rattle.kt_model.specs.declared.finding.Rule.TheVariants.{SourceTooLong, Synt
 pub by_place_total : IsTotalOrder by_place
 by_place_total =
     then_total (on_total (λ (f : Finding). f.span.start) nat_cmp_total)
-      (then_total (on_total (λ (f : Finding). f.span.end) nat_cmp_total) (on_total (λ (f : Finding). code_of f.rule) nat_list_cmp_total))
+    (then_total (on_total (λ (f : Finding). f.span.end) nat_cmp_total) (on_total (λ (f : Finding). code_of f.rule) nat_list_cmp_total))
 
 -- ---- findings of one place
 

@@ -1,12 +1,11 @@
 -- The graph of a body is one chain of nodes.
-use Rattle.std.proofs.Common.{◌≡◌, ℕ, ◌+◌, ◌<◌, ◌≤◌, Bool, List, [], ◌∷◌, ◌++◌, ◌⊎◌, inl, inr, refl, sym, ap, ◌∙◌, subst, append_assoc, arith}
+use Rattle.std.proofs.Common.{◌≡◌, ℕ, ◌+◌, ◌<◌, ◌≤◌, List, [], ◌∷◌, ◌++◌, inl, inr, refl, sym, ap, ◌∙◌, subst, append_assoc, arith}
 use Rattle.std.proofs.lemmas.List.{append-nil}
-use Rattle.kt_tree.specs.declared.token.Span.{Span}
-use Rattle.kt_model.specs.Trees.{Tree, Int', Name', Declare', Local', Assign', Println', number, trees_of}
-use Rattle.kt_model.specs.Graph.{Node, Edge, Graph, Tag, Entry, Params, In, Out, End, lead, joined, on, in_of, out_of, edges, begin_of, block_edges, outside, bare, graph_of}
-use Rattle.kt_model.specs.Paths.{Among, IsPath}
-use Rattle.kt_model.specs.Flow.{IsTreeOf, IsDead}
-use Rattle.kt_check.proofs.Chains.{among_left, among_right, among_either, Distinct, Apart, distinct_append, onto, Stands, stands_onto, steps, steps-append, IsChain, front_is_path}
+use Rattle.kt_model.specs.Trees.{Tree, Int', Name', Declare', Local', Assign', Println', trees_of}
+use Rattle.kt_model.specs.Graph.{Node, Edge, Tag, Entry, Params, In, Out, End, lead, joined, on, in_of, out_of, edges, block_edges, outside, bare, graph_of}
+use Rattle.kt_model.specs.Paths.{Among}
+use Rattle.kt_model.specs.Flow.{IsDead}
+use Rattle.kt_check.proofs.Chains.{among_left, among_right, among_either, Distinct, distinct_append, Stands, stands_onto, steps, steps-append, IsChain, front_is_path}
 
 -- ---- the chain
 
@@ -78,7 +77,7 @@ body_is_chain (t ∷ ts) =
     let second : Edge = (bare Params, in_of outside t) in
     record {
       edges_are =
-        ap (λ es. first ∷ second ∷ es) (append-nil (block_edges outside (bare End ∷ []) (t ∷ ts)) ∙ block_edges-steps (t ∷ ts) (bare End));
+          ap (λ es. first ∷ second ∷ es) (append-nil (block_edges outside (bare End ∷ []) (t ∷ ts)) ∙ block_edges-steps (t ∷ ts) (bare End));
     }
 
 -- ---- numbers
@@ -151,13 +150,14 @@ leaf_distinct n m is' other = (λ h. elim h [ inl same ↦ in_is_not_out n m is'
 around_distinct : (low high : ℕ) (n m : Node) (ns : List Node) → n.tag ≡ In → m.tag ≡ Out → n.tree ≡ low → m.tree ≡ low
     → ((k : Node) → Among k ns → IsWithin (low + 1) high k) → Distinct ns → Distinct (n ∷ (ns ++ m ∷ []))
 around_distinct low high n m ns is' other first last within distinct =
-    let outer : (k : Node) → k.tree ≡ low → Among k ns → ⊥ = λ k is among. let f = (within k among).from in omega arith in
-    (λ h. elim (among_either n ns (m ∷ []) h) [
+    let outer : (k : Node) → k.tree ≡ low → Among k ns → ⊥ = λ k is among. let f = (within k among).from in omega arith in (
+      λ h. elim (among_either n ns (m ∷ []) h) [
         | inl left ↦ outer n first left
         | inr right ↦ elim right [ inl same ↦ in_is_not_out n m is' other same | inr none ↦ none ]
       ],
-     distinct_append ns (m ∷ []) distinct (λ none. none, tt)
-       (λ k left right. elim right [ inl same ↦ outer k (ap (λ j. j.tree) same ∙ last) left | inr none ↦ none ]))
+      distinct_append ns (m ∷ []) distinct (λ none. none, tt)
+          (λ k left right. elim right [ inl same ↦ outer k (ap (λ j. j.tree) same ∙ last) left | inr none ↦ none ]),
+    )
 
 nodes_distinct : (low : ℕ) (t : Tree) → IsNumberedTree low t → Distinct (nodes_of t)
 nodes_distinct low (Int' n k) is = leaf_distinct (in_of outside (Int' n k)) (out_of outside (Int' n k)) refl refl
@@ -185,23 +185,26 @@ route_distinct : (low : ℕ) (ts : List Tree) → AreNumberedTrees low ts → Di
 route_distinct low [] is = tt
 route_distinct low (t ∷ ts) is =
     distinct_append (nodes_of t) (route ts) (nodes_distinct low t is.0) (route_distinct (low + size t) ts is.1)
-      (λ m left right. let b = (nodes_within low t is.0 m left).below in let f = route_from (low + size t) ts is.1 m right in omega arith)
+    (λ m left right. let b = (nodes_within low t is.0 m left).below in let f = route_from (low + size t) ts is.1 m right in omega arith)
 
 -- No node stands twice in the chain of a body whose trees are numbered in preorder.
 pub walk_distinct : (ts : List Tree) → AreNumberedTrees 1 ts → Distinct (bare Entry ∷ walk ts)
 walk_distinct ts is =
     let outer : (m : Node) → m.tree ≡ 0 → Among m (route ts) → ⊥ = λ m zero among. let f = route_from 1 ts is m among in omega arith in
     let apart : (m : Node) → m.tree ≡ 0 → (m ≡ bare End → ⊥) → Among m (route ts ++ bare End ∷ []) → ⊥ =
-      λ m zero other among.
-        elim (among_either m (route ts) (bare End ∷ []) among) [ inl left ↦ outer m zero left | inr right ↦ elim right [ inl same ↦ other same | inr none ↦ none ] ] in
-    let tags : (a b : Tag) → bare a ≡ bare b → a ≡ b = λ a b same. ap (λ k. k.tag) same in
-    (λ h. elim h [
+    λ m zero other among.
+    elim (among_either m (route ts) (bare End ∷ []) among) [ inl left ↦ outer m zero left | inr right ↦ elim right [ inl same ↦ other same | inr none ↦ none ] ] in
+    let tags : (a b : Tag) → bare a ≡ bare b → a ≡ b = λ a b same. ap (λ k. k.tag) same in (
+      λ h. elim h [
         | inl same ↦ let t = tags Entry Params same in cc
         | inr among ↦ apart (bare Entry) refl (λ same. let t = tags Entry End same in cc) among
       ],
-     (apart (bare Params) refl (λ same. let t = tags Params End same in cc),
-      distinct_append (route ts) (bare End ∷ []) (route_distinct 1 ts is) (λ none. none, tt)
-        (λ m left right. elim right [ inl same ↦ outer m (ap (λ k. k.tree) same) left | inr none ↦ none ])))
+      (
+        apart (bare Params) refl (λ same. let t = tags Params End same in cc),
+        distinct_append (route ts) (bare End ∷ []) (route_distinct 1 ts is) (λ none. none, tt)
+            (λ m left right. elim right [ inl same ↦ outer m (ap (λ k. k.tree) same) left | inr none ↦ none ]),
+      ),
+    )
 
 -- ---- no tree is dead
 
@@ -233,6 +236,6 @@ none_dead ts n dead =
     let t = dead.tree.tree in
     let node = in_of outside t in
     let among : Among node (bare Entry ∷ walk ts) =
-      inr (inr (among_left node (route ts) (bare End ∷ []) (route_in t dead.tree.outer ts dead.tree.among dead.tree.inside))) in
+    inr (inr (among_left node (route ts) (bare End ∷ []) (route_in t dead.tree.outer ts dead.tree.among dead.tree.inside))) in
     let stands : Stands node (bare Entry ∷ walk ts) = stands_onto node [] (bare Entry ∷ walk ts) among in
     dead.unreached node stands.front (front_is_path (graph_of ts) (walk ts) (body_is_chain ts) node stands.front stands.rest stands.all_is) dead.tree.number_is refl

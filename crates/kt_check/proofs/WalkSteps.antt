@@ -1,5 +1,5 @@
 -- One step of each walk along the statements.
-use Rattle.std.proofs.Common.{◌≡◌, ℕ, ◌+◌, ◌<◌, ◌≤◌, Bool, true, false, List, [], ◌∷◌, ◌++◌, length, get_or, drop, refl, sym, ap, ◌∙◌, subst, append_assoc, nat_eq, if◌then◌else◌}
+use Rattle.std.proofs.Common.{◌≡◌, ℕ, ◌+◌, ◌<◌, ◌≤◌, Bool, true, false, List, [], ◌++◌, length, get_or, drop, refl, sym, ap, ◌∙◌, append_assoc, if◌then◌else◌}
 use Rattle.std.proofs.lemmas.List.{append-nil, drop_more, drop_all}
 use Rattle.kt_tree.specs.declared.tree.Stmt.{Stmt}
 use Rattle.kt_model.specs.Trees.{declares_val, is_val}

@@ -3,3 +3,4 @@ pub mod Marks
 pub mod NameFindings
 pub mod FlowFindings
 pub mod Numbers
+pub mod Verdicts

@@ -16,9 +16,11 @@ pub(crate) fn first_finding(alloc: Global, block: &[Stmt]) -> Result<Option<Find
     ensures { IfOk result (IsFirstInBlock block.now) }
 {
     let found = name_findings(alloc, block)?;
-    if let Some(finding) = least_of(&found) {
-        return Ok(Some(finding));
+    match least_of(&found) {
+        Some(finding) => Ok(Some(finding)),
+        None => {
+            let found = flow_findings(alloc, block)?;
+            Ok(least_of(&found))
+        }
     }
-    let found = flow_findings(alloc, block)?;
-    Ok(least_of(&found))
 }

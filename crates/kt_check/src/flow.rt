@@ -55,7 +55,12 @@ fn check_value(value: &Expr, assigned: &Marks, found: &mut Vec<Finding>) -> Resu
 }
 
 /// Tries VAL_TWICE where a variable is assigned.
-fn check_target(target: &Ident, vals: &Marks, assigned: &Marks, found: &mut Vec<Finding>) -> Result<(), NoMemory>
+fn check_target(
+    target: &Ident,
+    vals: &Marks,
+    assigned: &Marks,
+    found: &mut Vec<Finding>,
+) -> Result<(), NoMemory>
     ensures { OnOk result (found.new.items ≡ found.old.items ++ walk.target_findings (marked vals.now.by_name.items) (marked assigned.now.by_name.items) target.now) }
 {
     if vals.has(target.name) && assigned.has(target.name) {
@@ -68,12 +73,18 @@ fn check_target(target: &Ident, vals: &Marks, assigned: &Marks, found: &mut Vec<
 }
 
 /// Tries the rules on variables at a statement, behind those that are assigned.
-fn check_statement(kind: &StmtKind, vals: &Marks, assigned: &Marks, found: &mut Vec<Finding>) -> Result<(), NoMemory>
+fn check_statement(
+    kind: &StmtKind,
+    vals: &Marks,
+    assigned: &Marks,
+    found: &mut Vec<Finding>,
+) -> Result<(), NoMemory>
     ensures { OnOk result (found.new.items ≡ found.old.items ++ walk.flow_findings_at (marked vals.now.by_name.items) (marked assigned.now.by_name.items) kind.now) }
 {
     match kind {
         StmtKind::Local {
-            initialiser: None, ..
+            initialiser: None,
+            ..
         } => Ok(()),
         StmtKind::Local {
             initialiser: Some(value),

@@ -6,7 +6,13 @@
 #![tactic(auto)]
 
 mod block;
+mod checking;
 mod flow;
+pub mod laws;
 mod least;
 mod marks;
 mod names;
+mod verdict;
+
+pub use checking::check;
+pub use verdict::Verdict;

@@ -37,7 +37,11 @@ fn check_value(value: &Expr, declared: &Marks, found: &mut Vec<Finding>) -> Resu
 }
 
 /// Tries DUPLICATE_LOCAL at a name that is declared.
-fn check_declaration(ident: Ident, declared: &Marks, found: &mut Vec<Finding>) -> Result<(), NoMemory>
+fn check_declaration(
+    ident: Ident,
+    declared: &Marks,
+    found: &mut Vec<Finding>,
+) -> Result<(), NoMemory>
     ensures { OnOk result (found.new.items ≡ found.old.items ++ walk.duplicate_findings (marked declared.now.by_name.items) (ident ∷ [])) }
 {
     if declared.has(ident.name) {
@@ -50,7 +54,11 @@ fn check_declaration(ident: Ident, declared: &Marks, found: &mut Vec<Finding>) -
 }
 
 /// Tries the rules on names at a statement, behind those that are declared.
-fn check_statement(kind: &StmtKind, declared: &Marks, found: &mut Vec<Finding>) -> Result<(), NoMemory>
+fn check_statement(
+    kind: &StmtKind,
+    declared: &Marks,
+    found: &mut Vec<Finding>,
+) -> Result<(), NoMemory>
     ensures { OnOk result (found.new.items ≡ found.old.items ++ walk.name_findings_at (marked declared.now.by_name.items) kind.now) }
 {
     match kind {

@@ -9,9 +9,9 @@ loop-statement-init c = flow_begin (is_val c.args.block.now) _ _ c.args.block.no
 pub loop-statement-preserved : goal.loop-statement-preserved
 loop-statement-preserved c =
     flow_more c.args.block.now c.loop-statement.statement-index _ _ _ _ (is_val c.args.block.now) _ _ _ c.loop-statement-test.true c.in_ok-vals.ensures
-      c.in_ok-check_statement.ensures c.in_ok-assign.ensures c.loop-statement.invariant
+    c.in_ok-check_statement.ensures c.in_ok-assign.ensures c.loop-statement.invariant
 
 pub returns : goal.returns
 returns c =
     flow_exact c.args.block.now _ c.requires
-      (flow_end c.args.block.now c.loop-statement.statement-index _ _ (is_val c.args.block.now) _ c.loop-statement-test.false c.loop-statement.invariant)
+    (flow_end c.args.block.now c.loop-statement.statement-index _ _ (is_val c.args.block.now) _ c.loop-statement-test.false c.loop-statement.invariant)

@@ -8,7 +8,7 @@ loop-statement-init c = names_begin _ _ c.args.block.now c.new-found.ensures.ite
 pub loop-statement-preserved : goal.loop-statement-preserved
 loop-statement-preserved c =
     names_more c.args.block.now c.loop-statement.statement-index _ _ _ _ _ _ c.loop-statement-test.true c.in_ok-check_statement.ensures c.in_ok-declare.ensures
-      c.loop-statement.invariant
+    c.loop-statement.invariant
 
 pub returns : goal.returns
 returns c =
