@@ -34,7 +34,7 @@ fn main(rt: HostRuntime) -> ExitCode {
     }
     let mut library = FileLibrary::new(rt);
     let mut input = StdInput::new(rt.stdin());
-    let mut out = StdOutput::new(rt.stdout());
-    let mut err = StdOutput::new(rt.stderr());
+    let mut out = StdOutput::output(rt.stdout());
+    let mut err = StdOutput::error(rt.stderr());
     ExitCode::from(ktflow(alloc, &words, &mut library, &mut input, &mut out, &mut err))
 }

@@ -2,8 +2,7 @@
 use Rattle.std.proofs.Common.{◌≡◌, ◌≢◌, ◌⊎◌, inl, inr, ℕ, ◌<◌, List, ◌++◌, length, None, refl, sym, ap, subst, ◌∙◌, arith}
 use Rattle.std.specs.Io.KnownBytes.{Appends}
 use Rattle.kt_outside.specs.Outside.{OutputState, Rose}
-use Rattle.kt_outside.specs.Texts.{IsPrefix}
-use Rattle.kt_mean.specs.Events.{Event, text_of}
+use Rattle.kt_mean.specs.Events.{text_of}
 use Rattle.ktflow.specs.Course.{Course, Ending, ended, askings, line_of, status_of, lines_ended, IsBeforeReading}
 use Rattle.ktflow.specs.Course as course
 use Rattle.ktflow.specs.Program.{HasCourse, usage, request_of}

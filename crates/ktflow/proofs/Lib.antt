@@ -1,4 +1,5 @@
 pub mod LanguageLaws
+pub mod Executions
 pub mod OneCourse
 pub mod FetchSteps
 pub mod Endings
@@ -8,3 +9,4 @@ pub mod ByStop
 pub mod FromInvocation
 pub mod Fronts
 pub mod Completeness
+pub mod Headlines

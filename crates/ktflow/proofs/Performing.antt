@@ -4,7 +4,7 @@ use Rattle.std.proofs.KnownBytes.{Appends-nil, Consumes-nil}
 use Rattle.std.proofs.lemmas.List.{take_all}
 use Rattle.kt_outside.specs.Outside.{LibraryState, InputState, OutputState, KeepsLibrary}
 use Rattle.kt_outside.specs.Texts.{IsPrefix}
-use Rattle.kt_mean.specs.Events.{RunCourse, text_of}
+use Rattle.kt_mean.specs.Events.{text_of}
 use Rattle.ktflow.specs.Course.{Course, Ran, ended, course_of_run}
 use Rattle.ktflow.specs.Course as course
 use Rattle.ktflow.specs.Language.{IsRefused, IsRun}

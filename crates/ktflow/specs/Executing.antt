@@ -8,6 +8,9 @@ use Rattle.kt_mean.specs.Events.{RunCourse, text_of}
 use Rattle.ktflow.specs.Course as course
 use Rattle.ktflow.specs.Language.{IsRefused, IsRun}
 use Rattle.kt_mean.specs.declared.value.RunEnding.{RunEnding}
+use Rattle.kt_mean.specs.declared.value.RunEnding.TheVariants as ending
+use Rattle.kt_run.specs.declared.interpreter.End.{End}
+use Rattle.kt_run.specs.declared.interpreter.End.TheVariants as end
 use Rattle.ktflow.specs.declared.ending.Ending.{Ending}
 use Rattle.ktflow.specs.declared.ending.Ending.TheVariants.{Usage, Refused, Ran}
 use Rattle.ktflow.specs.declared.ending.Stop.{Stop}
@@ -60,3 +63,10 @@ Executes source steps input old new SourceFault = ⊥
 Executes source steps input old new InputFault = ⊥
 Executes source steps input old new OutputFault = RunsToFailedPut source steps input old new
 Executes source steps input old new NoMemory = RunsOutOfMemory source steps input old new
+
+-- what the end of a run stops a call with
+abbrev pub stop_told : End → Stop
+stop_told end.Done = Ended (Ran ending.Done)
+stop_told end.Steps = Ended (Ran ending.Steps)
+stop_told end.WriteFault = OutputFault
+stop_told end.NoMemory = NoMemory

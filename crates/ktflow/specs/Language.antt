@@ -1,15 +1,17 @@
--- What the program must know of the language: which sources the written rules refuse, and what a run of another one is.
--- For now the language has one program, the empty source, which prints `x`.
-use Rattle.std.specs.Prelude.{◌≡◌, ◌≢◌, ℕ, List, [], ◌∷◌, codes}
-use Rattle.kt_mean.specs.Events.{RunCourse, Printed}
-use Rattle.kt_mean.specs.declared.value.RunEnding.TheVariants.{Done}
+-- What the program must know of the language: which sources the written rules refuse, with which report, and what a run of another one is.
+use Rattle.std.specs.Prelude.{◌≡◌, ℕ, List}
+use Rattle.kt_model.specs.Rules.{IsFirstFinding}
+use Rattle.kt_model.specs.declared.finding.Finding.{Finding}
+use Rattle.kt_mean.specs.Events.{RunCourse}
+use Rattle.kt_mean.specs.Run as meaning
+use Rattle.kt_report.specs.Report.{report_of}
 
--- The written rules refuse the source, with this report.
+-- The written rules refuse the source: this is the report of its first finding.
 pub record IsRefused (source report : List ℕ) : Type 0 where
-  pub source_is : source ≢ []
-  pub report_is : report ≡ codes "no\n"
+  pub finding : Finding
+  pub first : IsFirstFinding source finding
+  pub report_is : report ≡ report_of source finding
 
 -- The written rules refuse nothing in the source, and by the written meaning this is its run with so many steps on the input.
-pub record IsRun (source : List ℕ) (steps : ℕ) (input : List ℕ) (run : RunCourse) : Type 0 where
-  pub source_is : source ≡ []
-  pub run_is : run ≡ record { events = Printed (codes "x\n") ∷ []; ending = Done }
+abbrev pub IsRun : List ℕ → ℕ → List ℕ → RunCourse → Type 0
+IsRun source steps input run = meaning.IsRun source steps input run

@@ -6,3 +6,4 @@ pub mod Fetching
 pub mod Executing
 pub mod Invoking
 pub mod Clauses
+pub mod Headline

@@ -1,8 +1,7 @@
 -- What a call did to an input. This project's own; it says nothing of pieces.
-use Rattle.std.specs.Prelude.{◌≡◌, ℕ, ◌+◌, ◌<◌, ◌≤◌, List, length, Option, IfSome, Result, MatchResult}
-use Rattle.std.specs.Io.KnownBytes.{Appends, Consumes}
-use Rattle.kt_outside.specs.Outside.{InputState, OutputState, Rose}
-use Rattle.kt_outside.specs.Texts.{IsPrefix}
+use Rattle.std.specs.Prelude.{◌≡◌, ℕ, List, Option, IfSome}
+use Rattle.std.specs.Io.KnownBytes.{Consumes}
+use Rattle.kt_outside.specs.Outside.{InputState}
 
 -- the bytes are the known ones, where some are known
 abbrev pub IsKnown : Option (List ℕ) → List ℕ → Type 0

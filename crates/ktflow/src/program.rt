@@ -3,6 +3,7 @@ ghost use Rattle.std.specs.Prelude.{map, string_bytes};
 ghost use Rattle.kt_outside.specs.Outside.{OutputState};
 ghost use Rattle.ktflow.specs.Program.{OneCourse};
 ghost use Rattle.ktflow.specs.Invoking.{Invocation, Performs, Reports, outside};
+ghost use Rattle.ktflow.specs.Headline.{IsHeadline};
 ghost use Rattle.ktflow.specs.Clauses.{IsProgram, HasStatuses, HasOrder, HasFronts, IsComplete};
 
 use crate::ending::{Ending, Stop};
@@ -35,6 +36,12 @@ pub fn ktflow<L: Library, I: Input, O: Output, E: Output>(
     out: &mut O,
     err: &mut E,
 ) -> u8
+    // A file is run exactly where the written rules refuse nothing in it; texts and status are then those of the written meaning, which
+    // comes to no wrong use.
+    ensures headline { IsHeadline (map (λ w. string_bytes w) words.now)
+        (outside (L.state library.old) (I.state input.old) (O.state out.old) (E.state err.old))
+        (outside (L.state library.new) (I.state input.new) (O.state out.new) (E.state err.new)) result }
+
     // FILE and the input have some bytes, the told ones where they are told, and the call stops against a course for them.
     ensures invocation { Invocation (map (λ w. string_bytes w) words.now)
         (outside (L.state library.old) (I.state input.old) (O.state out.old) (E.state err.old))

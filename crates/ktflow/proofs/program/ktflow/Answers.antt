@@ -1,6 +1,7 @@
 use Rattle.ktflow.proofs.FromInvocation.{program_from, statuses_from, order_from}
 use Rattle.ktflow.proofs.Fronts.{fronts_from}
 use Rattle.ktflow.proofs.Completeness.{complete_from}
+use Rattle.ktflow.proofs.Headlines.{headline_from}
 use Rattle.ktflow.proofs.program.ktflow.Goals as goal
 
 pub returns-clause-invocation : goal.returns-clause-invocation
@@ -20,3 +21,6 @@ returns-clause-fronts g c = fronts_from _ _ _ _ (returns-clause-invocation g c)
 
 pub returns-clause-complete : goal.returns-clause-complete
 returns-clause-complete g c = complete_from _ _ _ _ (returns-clause-invocation g c)
+
+pub returns-clause-headline : goal.returns-clause-headline
+returns-clause-headline g c = headline_from _ _ _ _ (returns-clause-program g c)
