@@ -19,7 +19,7 @@ pub pieces : (source : List ℕ) (f : Finding) (t0 t1 t2 t3 t4 t5 t6 t7 t8 start
 unfolding report_of
 pieces source f t0 t1 t2 t3 t4 t5 t6 t7 t8 start end code text e0 e1 e2 e3 e4 e5 e6 e7 e8 starts ends codes_are texts_are =
     e8 ∙ ap (λ t. t ++ codes "\nrefused findings=1\n") (e7 ∙ ap (λ t. t ++ text) (e6 ∙ ap (λ t. t ++ codes " ") (e5 ∙ ap (λ t. t ++ code) (e4 ∙ ap (λ t. t ++ codes " ") (e3
-        ∙ ap (λ t. t ++ end) (e2 ∙ ap (λ t. t ++ codes "-") (e1 ∙ ap (λ t. t ++ start) e0)))))))
+    ∙ ap (λ t. t ++ end) (e2 ∙ ap (λ t. t ++ codes "-") (e1 ∙ ap (λ t. t ++ start) e0)))))))
     ∙ ap (λ p. p ++ codes "-" ++ end ++ codes " " ++ code ++ codes " " ++ text ++ codes "\nrefused findings=1\n") starts
     ∙ ap (λ p. place_of source f.span.start ++ codes "-" ++ p ++ codes " " ++ code ++ codes " " ++ text ++ codes "\nrefused findings=1\n") ends
     ∙ ap (λ p. place_of source f.span.start ++ codes "-" ++ place_of source f.span.end ++ codes " " ++ p ++ codes " " ++ text ++ codes "\nrefused findings=1\n") codes_are

@@ -12,7 +12,7 @@ use kt_tree::NoMemory;
 use std::alloc::Global;
 
 /// A place in a source: its line and its column in characters, both from 1.
-#[derive(Clone, Copy, Debug)]
+#[derive(Clone, Copy)]
 struct Place {
     line: usize,
     column: usize,
@@ -100,10 +100,16 @@ mod tests {
     fn names_the_finding_and_its_places(rt: HostRuntime) -> Result<(), Fail> {
         let twice = finding(Rule::ValTwice, 42, 43);
         let text = report(rt.alloc(), TWICE, &twice)?;
-        assert_eq!(rt; text.as_slice(), b"4:5-4:6 VAL_TWICE val may be assigned twice\nrefused findings=1\n".as_slice());
+        assert_eq!(rt;
+            text.as_slice(),
+            b"4:5-4:6 VAL_TWICE val may be assigned twice\nrefused findings=1\n".as_slice()
+        );
         let unknown = finding(Rule::UnknownName, 21, 22);
         let text = report(rt.alloc(), b"fun main() { println(y) }", &unknown)?;
-        assert_eq!(rt; text.as_slice(), b"1:22-1:23 UNKNOWN_NAME unknown name\nrefused findings=1\n".as_slice());
+        assert_eq!(rt;
+            text.as_slice(),
+            b"1:22-1:23 UNKNOWN_NAME unknown name\nrefused findings=1\n".as_slice()
+        );
         Ok(())
     }
 

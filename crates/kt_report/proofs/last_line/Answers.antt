@@ -1,4 +1,4 @@
-use Rattle.std.proofs.Common.{◌≤◌, ◌==◌, not, length, arith}
+use Rattle.std.proofs.Common.{not, arith}
 use Rattle.std.proofs.lemmas.List.Sums.{suffix_len-le-length}
 use Rattle.kt_report.specs.Report.{is_line_end}
 use Rattle.kt_report.proofs.last_line.Goals as goal
