@@ -1,12 +1,12 @@
 -- The bytes of names, and the digits of integers.
-use Rattle.std.proofs.Common.{◌≡◌, ℕ, suc, ◌+◌, ◌-◌, ◌*◌, ◌<◌, ◌≤◌, Bool, true, false, ◌&&◌, ◌||◌, not, ◌==◌, nat_le, nat_lt, List, [], ◌∷◌, length, length-append, take, drop, drop-cons, get_or, Result, Ok, Err, MatchResult, IsOk, refl, sym, ap, ◌∙◌, inl, inr, arith, rules, le_refl, subst}
+use Rattle.std.proofs.Common.{◌≡◌, ℕ, suc, ◌+◌, ◌-◌, ◌*◌, ◌<◌, ◌≤◌, Bool, true, false, ◌&&◌, ◌||◌, not, ◌==◌, nat_le, List, [], ◌∷◌, length, length-append, take, drop, drop-cons, get_or, Result, Ok, Err, MatchResult, IsOk, refl, sym, ap, ◌∙◌, inl, inr, arith, rules, le_refl, subst}
 use Rattle.std.proofs.lemmas.Bool.{cases_Bool, and_parts, and_from, and_right, lt-leb}
 use Rattle.std.proofs.lemmas.Bool.Decides.{nat_tests}
 use Rattle.std.proofs.lemmas.Str.{IsUtf8-from_ascii}
 use Rattle.std.proofs.lemmas.Str.Ascii.{IsAscii-nil, IsAscii-cons}
 use Rattle.std.specs.List.{fold, list_all, list_any, prefix_len}
 use Rattle.std.specs.Str.{IsUtf8, IsAscii, bytes_eq}
-use Rattle.kt_tree.specs.StraightWords.{begins_name, continues_name, is_digit, is_integer, decimal_value, first_byte, names_behind, is_name}
+use Rattle.kt_tree.specs.StraightWords.{continues_name, is_integer, decimal_value, first_byte, names_behind, is_name}
 use Rattle.kt_tree.specs.declared.word.WordKind.{WordKind}
 
 -- a byte that continues a name is ASCII

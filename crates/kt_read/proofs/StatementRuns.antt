@@ -1,10 +1,9 @@
 -- The statements that were read so far, before those that are left.
-use Rattle.std.proofs.Common.{◌≡◌, ℕ, zero, suc, ◌+◌, ◌<◌, ◌≤◌, Bool, true, false, List, [], ◌∷◌, ◌++◌, length, refl, sym, ap, ◌∙◌, inl, inr, arith, append_assoc, append-nil}
+use Rattle.std.proofs.Common.{◌≡◌, ℕ, zero, suc, ◌+◌, ◌<◌, ◌≤◌, true, false, List, [], ◌∷◌, ◌++◌, length, refl, sym, ap, ◌∙◌, arith, append_assoc, append-nil}
 use Rattle.std.proofs.lemmas.List.{nil_from_length}
 use Rattle.kt_tree.specs.StraightGrammar.{Reading, Reads, Misfit, nowhere, same_kind, statement, statements, trees_in, and_then}
 use Rattle.kt_tree.specs.declared.token.Span.{Span}
 use Rattle.kt_tree.specs.declared.word.Word.{Word}
-use Rattle.kt_tree.specs.declared.word.WordKind.{WordKind}
 use Rattle.kt_tree.specs.declared.word.WordKind.TheVariants as word
 use Rattle.kt_tree.specs.declared.tree.Stmt.{Stmt}
 

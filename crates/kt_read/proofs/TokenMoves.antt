@@ -1,5 +1,5 @@
 -- One move over the front of a text: a blank, the last token, or another token; and the words that such moves have read so far.
-use Rattle.std.proofs.Common.{◌≡◌, ℕ, zero, suc, ◌+◌, ◌-◌, ◌<◌, ◌≤◌, Bool, true, false, ◌||◌, ◌==◌, List, [], ◌∷◌, ◌++◌, length, take, drop, refl, sym, ap, ◌∙◌, inl, inr, arith, append_assoc, length-drop, subst}
+use Rattle.std.proofs.Common.{◌≡◌, ℕ, zero, suc, ◌+◌, ◌-◌, ◌<◌, ◌≤◌, Bool, true, false, ◌||◌, ◌==◌, List, [], ◌∷◌, ◌++◌, length, take, drop, refl, sym, ap, ◌∙◌, arith, append_assoc, length-drop, subst}
 use Rattle.std.proofs.lemmas.List.{nil_from_length}
 use Rattle.kt_tree.specs.StraightWords.{words_from, words_of, is_blank, is_last, front_of, placed, names_behind, Front}
 use Rattle.kt_tree.specs.declared.word.Word.{Word}

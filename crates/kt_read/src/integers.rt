@@ -6,6 +6,9 @@ ghost use Rattle.kt_tree.specs.StraightWords as spec;
 use crate::characters::{continues_name, first_byte, is_digit};
 use kt_tree::WordKind;
 
+/// The greatest integer.
+const GREATEST: u64 = 2147483647;
+
 /// The digits as a token before what follows them: a decimal integer up to 2147483647 without a leading zero, which no character that
 /// continues a name may follow and no `.` with a digit; else `Unknown`.
 pub fn integer_kind(digits: &[u8], after: &[u8]) -> WordKind
@@ -31,7 +34,7 @@ fn integer(digits: &[u8]) -> Option<i32>
     let mut value: u64 = 0;
     for digit in digits {
         value = value * 10 + u64::from(digit.saturating_sub(b'0'));
-        if value > 2147483647 {
+        if value > GREATEST {
             return None;
         }
     }

@@ -1,4 +1,4 @@
-use Rattle.std.proofs.Common.{◌≡◌, refl, sym, ap, ◌∙◌, subst}
+use Rattle.std.proofs.Common.{◌≡◌, refl, sym, ap, ◌∙◌}
 use Rattle.kt_tree.specs.Names.{place_of}
 use Rattle.kt_tree.specs.StraightWords.{kind_of_text}
 use Rattle.kt_tree.specs.declared.word.WordKind.TheVariants as word

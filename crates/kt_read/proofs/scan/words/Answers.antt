@@ -1,4 +1,4 @@
-use Rattle.std.proofs.Common.{◌≡◌, false, ◌+◌, ◌-◌, ◌<◌, ◌≤◌, length, vec_len, drop, take, refl, sym, ap, ◌∙◌, arith, rules, subst}
+use Rattle.std.proofs.Common.{◌≡◌, false, ◌+◌, ◌<◌, ◌≤◌, length, take, sym, ap, ◌∙◌, arith, rules, subst}
 use Rattle.kt_tree.specs.StraightWords as spec
 use Rattle.kt_read.specs.Answers.{front_of}
 use Rattle.kt_read.proofs.ByteFacts.{names_behind-length}
