@@ -7,17 +7,15 @@ use std::test::Fail;
 // No call of an object fails.
 const NEVER: u64 = 1_000_000;
 
-// An accepted source, what it prints, and how many fetches of one byte it takes.
-const ACCEPTED: &[u8] = b"";
+// An accepted source, and what it prints.
+const ACCEPTED: &[u8] = b"fun main() {\n    val x: Int\n    x = 2\n    println(x)\n}\n";
 
-const PRINTED: &[u8] = b"x\n";
-
-const FETCHES: u64 = 1;
+const PRINTED: &[u8] = b"2\n";
 
 // A refused source, and its report.
-const REFUSED: &[u8] = b"y";
+const REFUSED: &[u8] = b"fun main() {\n    val x: Int\n    x = 2\n    x = 2\n    println(x)\n}\n";
 
-const REPORT: &[u8] = b"no\n";
+const REPORT: &[u8] = b"4:5-4:6 VAL_TWICE val may be assigned twice\nrefused findings=1\n";
 
 const USAGE: &[u8] = b"usage: ktflow check FILE or ktflow run [--steps N] FILE\n";
 
@@ -153,7 +151,9 @@ fn each_put_on_out_fails(rt: HostRuntime) -> Result<(), Fail> {
 
 #[test]
 fn each_fetch_fails(rt: HostRuntime) -> Result<(), Fail> {
-    for fetch in 0..FETCHES {
+    // One fetch for each byte, and one that finds the end.
+    let fetches = ACCEPTED.len() as u64 + 1;
+    for fetch in 0..fetches {
         reports(
             &rt,
             rt.alloc(),
@@ -162,11 +162,147 @@ fn each_fetch_fails(rt: HostRuntime) -> Result<(), Fail> {
             b"cannot read source\n",
         )?;
     }
-    let fetch = FETCHES;
+    let fetch = fetches;
     answers(&rt, rt.alloc(), Case { fetch, ..PLAIN }, 0, PRINTED, b"")
 }
 
 #[test]
 fn no_take_is_made(rt: HostRuntime) -> Result<(), Fail> {
     answers(&rt, rt.alloc(), Case { take: 0, ..PLAIN }, 0, PRINTED, b"")
+}
+
+#[test]
+fn steps_bound_a_run(rt: HostRuntime) -> Result<(), Fail> {
+    let words = &["run", "--steps", "5", "a.kt"];
+    answers(&rt, rt.alloc(), Case { words, ..PLAIN }, 0, PRINTED, b"")?;
+    let words = &["run", "--steps", "4", "a.kt"];
+    answers(
+        &rt,
+        rt.alloc(),
+        Case { words, ..PLAIN },
+        9,
+        b"",
+        b"limit steps\n",
+    )?;
+    let source = b"fun main() { println(1) }";
+    let words = &["run", "--steps", "2", "a.kt"];
+    let case = Case {
+        words,
+        source,
+        ..PLAIN
+    };
+    answers(&rt, rt.alloc(), case, 0, b"1\n", b"")?;
+    let words = &["run", "--steps", "1", "a.kt"];
+    answers(
+        &rt,
+        rt.alloc(),
+        Case { words, ..case },
+        9,
+        b"",
+        b"limit steps\n",
+    )
+}
+
+// Numbers of steps that are none.
+const NO_NUMBERS: [&[&str]; 7] = [
+    &["run", "--steps", "0", "a.kt"],
+    &["run", "--steps", "+5", "a.kt"],
+    &["run", "--steps", " 5", "a.kt"],
+    &["run", "--steps", "00000000005", "a.kt"],
+    &["run", "--steps", "9999999999", "a.kt"],
+    &["run", "--steps", "", "a.kt"],
+    &["check", "a.kt"],
+];
+
+#[test]
+fn other_words_have_no_shape(rt: HostRuntime) -> Result<(), Fail> {
+    for words in NO_NUMBERS {
+        answers(&rt, rt.alloc(), Case { words, ..PLAIN }, 2, b"", USAGE)?;
+    }
+    Ok(())
+}
+
+// Refused sources with their reports.
+const REPORTS: [(&[u8], &[u8]); 7] = [
+    (
+        b"fun main() { println(y) }",
+        b"1:22-1:23 UNKNOWN_NAME unknown name\nrefused findings=1\n",
+    ),
+    (
+        b"fun main() { if }",
+        b"1:14-1:16 SYNTAX unexpected token\nrefused findings=1\n",
+    ),
+    (
+        b"",
+        b"1:1-1:1 SYNTAX unexpected token\nrefused findings=1\n",
+    ),
+    (
+        b"fun main() { println(1",
+        b"1:23-1:23 SYNTAX unexpected token\nrefused findings=1\n",
+    ),
+    (
+        b"fun main() {\n\tval x = 1\n}",
+        b"2:1-2:2 SYNTAX unexpected token\nrefused findings=1\n",
+    ),
+    (
+        b"fun main() {\n    val x = 1\n    val y: Int\n    val x = y\n}\n",
+        b"4:9-4:10 DUPLICATE_LOCAL name is declared already\nrefused findings=1\n",
+    ),
+    (
+        b"fun main() {\n    val x = 1\n    val y: Int\n    x = y\n}\n",
+        b"4:5-4:6 VAL_TWICE val may be assigned twice\nrefused findings=1\n",
+    ),
+];
+
+#[test]
+fn refusals_name_their_place(rt: HostRuntime) -> Result<(), Fail> {
+    for (source, report) in REPORTS {
+        answers(&rt, rt.alloc(), Case { source, ..PLAIN }, 1, b"", report)?;
+    }
+    Ok(())
+}
+
+// A `main` without statements, filled up with spaces to so many bytes.
+fn filled(alloc: Global, len: usize) -> Result<Vec<u8>, Fail> {
+    let mut source = b"fun main() { }".to_vec(alloc)?;
+    source.resize(len, b' ')?;
+    Ok(source)
+}
+
+fn answers_filled(
+    rt: &impl Abort,
+    alloc: Global,
+    len: usize,
+    status: u8,
+    err: &[u8],
+) -> Result<(), Fail> {
+    let mut words = Vec::new(alloc);
+    words.push(String::from_str(alloc, "run")?)?;
+    words.push(String::from_str(alloc, "a.kt")?)?;
+    let mut files = Vec::new(alloc);
+    files.push((String::from_str(alloc, "a.kt")?, filled(alloc, len)?))?;
+    let mut library = MemoryLibrary::new(files, 65_536, Vec::new(alloc));
+    let mut input = MemoryInput::new(Vec::new(alloc), 1, Vec::new(alloc));
+    let Ok(mut to) = MemoryOutput::new(alloc, 100, 100, Vec::new(alloc)) else {
+        return Err(Fail::new("no memory"));
+    };
+    let Ok(mut on) = MemoryOutput::new(alloc, 100, 100, Vec::new(alloc)) else {
+        return Err(Fail::new("no memory"));
+    };
+    let answer = ktflow(alloc, &words, &mut library, &mut input, &mut to, &mut on);
+    assert_eq!(rt; answer, status);
+    assert_eq!(rt; on.written(), err);
+    Ok(())
+}
+
+#[test]
+fn a_source_has_a_greatest_length(rt: HostRuntime) -> Result<(), Fail> {
+    answers_filled(&rt, rt.alloc(), 1_048_576, 0, b"")?;
+    answers_filled(
+        &rt,
+        rt.alloc(),
+        1_048_577,
+        1,
+        b"1:1-1:1 SOURCE_TOO_LONG source is too long\nrefused findings=1\n",
+    )
 }
