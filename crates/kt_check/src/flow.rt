@@ -2,7 +2,7 @@
 ghost use Rattle.std.specs.Prelude.{◌≡◌, ℕ, true, ◌++◌, OnOk, IfOk, if◌then◌else◌};
 ghost use Rattle.kt_model.specs.Trees.{declares_val, is_val};
 ghost use Rattle.kt_check.specs.Findings.{IsFlowFinding, AreExactly};
-ghost use Rattle.kt_check.specs.Marks.{marked};
+ghost use Rattle.kt_check.specs.Marks.{is_marked};
 ghost use Rattle.kt_check.specs.Numbers.{IsNumbered};
 ghost use Rattle.kt_check.specs.FlowFindings as walk;
 
@@ -13,7 +13,7 @@ use std::alloc::Global;
 
 /// Marks the name that a statement declares by `val`.
 fn mark_val(kind: &StmtKind, vals: &mut Marks) -> Result<(), NoMemory>
-    ensures { OnOk result ((x : ℕ) → marked vals.new.by_name.items x ≡ (if declares_val kind.now x then true else marked vals.old.by_name.items x)) }
+    ensures { OnOk result ((x : ℕ) → is_marked vals.new x ≡ (if declares_val kind.now x then true else is_marked vals.old x)) }
 {
     match kind {
         StmtKind::Local {
@@ -27,7 +27,7 @@ fn mark_val(kind: &StmtKind, vals: &mut Marks) -> Result<(), NoMemory>
 
 /// The names that a block declares by `val`.
 fn vals_of(alloc: Global, block: &[Stmt]) -> Result<Marks, NoMemory>
-    ensures { IfOk result (λ vals. (x : ℕ) → marked vals.by_name.items x ≡ is_val block.now x) }
+    ensures { IfOk result (λ vals. (x : ℕ) → is_marked vals x ≡ is_val block.now x) }
 {
     let mut vals = Marks::new(alloc);
     for statement in block {
@@ -38,7 +38,7 @@ fn vals_of(alloc: Global, block: &[Stmt]) -> Result<Marks, NoMemory>
 
 /// Tries UNASSIGNED where an expression is evaluated.
 fn check_value(value: &Expr, assigned: &Marks, found: &mut Vec<Finding>) -> Result<(), NoMemory>
-    ensures { OnOk result (found.new.items ≡ found.old.items ++ walk.value_findings (marked assigned.now.by_name.items) value.now) }
+    ensures { OnOk result (found.new.items ≡ found.old.items ++ walk.value_findings (is_marked assigned.now) value.now) }
 {
     match value.kind {
         ExprKind::Int(_) => {}
@@ -61,7 +61,7 @@ fn check_target(
     assigned: &Marks,
     found: &mut Vec<Finding>,
 ) -> Result<(), NoMemory>
-    ensures { OnOk result (found.new.items ≡ found.old.items ++ walk.target_findings (marked vals.now.by_name.items) (marked assigned.now.by_name.items) target.now) }
+    ensures { OnOk result (found.new.items ≡ found.old.items ++ walk.target_findings (is_marked vals.now) (is_marked assigned.now) target.now) }
 {
     if vals.has(target.name) && assigned.has(target.name) {
         found.push(Finding {
@@ -79,7 +79,7 @@ fn check_statement(
     assigned: &Marks,
     found: &mut Vec<Finding>,
 ) -> Result<(), NoMemory>
-    ensures { OnOk result (found.new.items ≡ found.old.items ++ walk.flow_findings_at (marked vals.now.by_name.items) (marked assigned.now.by_name.items) kind.now) }
+    ensures { OnOk result (found.new.items ≡ found.old.items ++ walk.flow_findings_at (is_marked vals.now) (is_marked assigned.now) kind.now) }
 {
     match kind {
         StmtKind::Local {
@@ -100,7 +100,7 @@ fn check_statement(
 
 /// Marks what is assigned behind a statement.
 fn assign(kind: &StmtKind, assigned: &mut Marks) -> Result<(), NoMemory>
-    ensures { OnOk result ((x : ℕ) → marked assigned.new.by_name.items x ≡ walk.assigned_after (marked assigned.old.by_name.items) kind.now x) }
+    ensures { OnOk result ((x : ℕ) → is_marked assigned.new x ≡ walk.assigned_after (is_marked assigned.old) kind.now x) }
 {
     match kind {
         StmtKind::Local {

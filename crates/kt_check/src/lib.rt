@@ -12,6 +12,8 @@ pub mod laws;
 mod least;
 mod marks;
 mod names;
+#[cfg(test)]
+mod plain;
 mod verdict;
 
 pub use checking::check;

@@ -1,6 +1,5 @@
 //! A mark for each name.
 ghost use Rattle.std.specs.Prelude.{◌≡◌, ℕ, false, OnOk, OnErr};
-ghost use Rattle.kt_check.specs.Marks.{marked, with_mark};
 
 use kt_tree::NoMemory;
 use std::alloc::Global;
@@ -12,9 +11,11 @@ pub(crate) struct Marks {
 }
 
 impl Marks {
+    ghost use Rattle.kt_check.specs.Marks.{is_marked, with_mark};
+
     /// No name is marked.
     pub(crate) fn new(alloc: Global) -> Marks
-        ensures { (x : ℕ) → marked result.by_name.items x ≡ false }
+        ensures { (x : ℕ) → is_marked result x ≡ false }
     {
         Marks {
             by_name: Vec::new(alloc),
@@ -23,14 +24,14 @@ impl Marks {
 
     /// Whether the name is marked.
     pub(crate) fn has(&self, name: u32) -> bool
-        ensures { result ≡ marked self.now.by_name.items name }
+        ensures { result ≡ is_marked self.now name }
     {
         self.by_name.get(name as usize).copied().unwrap_or(false)
     }
 
     /// Sets the mark of a name. `Err` where there is no memory: the marks are unchanged.
     pub(crate) fn put(&mut self, name: u32, mark: bool) -> Result<(), NoMemory>
-        ensures marks { OnOk result ((x : ℕ) → marked self.new.by_name.items x ≡ with_mark (marked self.old.by_name.items) name mark x) }
+        ensures marks { OnOk result ((x : ℕ) → is_marked self.new x ≡ with_mark (is_marked self.old) name mark x) }
         ensures kept { OnErr result (self.new.by_name.items ≡ self.old.by_name.items) }
     {
         let place = name as usize;

@@ -2,7 +2,7 @@
 ghost use Rattle.std.specs.Prelude.{◌≡◌, ℕ, [], ◌∷◌, ◌++◌, OnOk, IfOk};
 ghost use Rattle.kt_model.specs.Names.{uses_of_expr};
 ghost use Rattle.kt_check.specs.Findings.{IsNameFinding, AreExactly};
-ghost use Rattle.kt_check.specs.Marks.{marked};
+ghost use Rattle.kt_check.specs.Marks.{is_marked};
 ghost use Rattle.kt_check.specs.NameFindings as walk;
 
 use crate::marks::Marks;
@@ -12,7 +12,7 @@ use std::alloc::Global;
 
 /// Tries UNKNOWN_NAME at a name that is assigned or read.
 fn check_use(ident: Ident, declared: &Marks, found: &mut Vec<Finding>) -> Result<(), NoMemory>
-    ensures { OnOk result (found.new.items ≡ found.old.items ++ walk.unknown_findings (marked declared.now.by_name.items) (ident ∷ [])) }
+    ensures { OnOk result (found.new.items ≡ found.old.items ++ walk.unknown_findings (is_marked declared.now) (ident ∷ [])) }
 {
     if !declared.has(ident.name) {
         found.push(Finding {
@@ -25,7 +25,7 @@ fn check_use(ident: Ident, declared: &Marks, found: &mut Vec<Finding>) -> Result
 
 /// Tries UNKNOWN_NAME at the name that an expression reads, if it reads one.
 fn check_value(value: &Expr, declared: &Marks, found: &mut Vec<Finding>) -> Result<(), NoMemory>
-    ensures { OnOk result (found.new.items ≡ found.old.items ++ walk.unknown_findings (marked declared.now.by_name.items) (uses_of_expr value.now)) }
+    ensures { OnOk result (found.new.items ≡ found.old.items ++ walk.unknown_findings (is_marked declared.now) (uses_of_expr value.now)) }
 {
     match value.kind {
         ExprKind::Int(_) => Ok(()),
@@ -42,7 +42,7 @@ fn check_declaration(
     declared: &Marks,
     found: &mut Vec<Finding>,
 ) -> Result<(), NoMemory>
-    ensures { OnOk result (found.new.items ≡ found.old.items ++ walk.duplicate_findings (marked declared.now.by_name.items) (ident ∷ [])) }
+    ensures { OnOk result (found.new.items ≡ found.old.items ++ walk.duplicate_findings (is_marked declared.now) (ident ∷ [])) }
 {
     if declared.has(ident.name) {
         found.push(Finding {
@@ -59,7 +59,7 @@ fn check_statement(
     declared: &Marks,
     found: &mut Vec<Finding>,
 ) -> Result<(), NoMemory>
-    ensures { OnOk result (found.new.items ≡ found.old.items ++ walk.name_findings_at (marked declared.now.by_name.items) kind.now) }
+    ensures { OnOk result (found.new.items ≡ found.old.items ++ walk.name_findings_at (is_marked declared.now) kind.now) }
 {
     match kind {
         StmtKind::Local {
@@ -85,7 +85,7 @@ fn check_statement(
 
 /// Marks what a statement declares.
 fn declare(kind: &StmtKind, declared: &mut Marks) -> Result<(), NoMemory>
-    ensures { OnOk result ((x : ℕ) → marked declared.new.by_name.items x ≡ walk.declared_after (marked declared.old.by_name.items) kind.now x) }
+    ensures { OnOk result ((x : ℕ) → is_marked declared.new x ≡ walk.declared_after (is_marked declared.old) kind.now x) }
 {
     match kind {
         StmtKind::Local { ident, .. } => declared.put(ident.name, true),
