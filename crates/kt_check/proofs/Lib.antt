@@ -8,3 +8,4 @@ pub mod PlaceOrder
 pub mod LeastFinding
 pub mod WalkSteps
 pub mod Phases
+pub mod EverySource
