@@ -30,14 +30,14 @@ is_program source ss a = record {
 }
 
 -- what is no wrong use ends a run
-ends : (e : Ending Value) → NotWrong e → (r : RunEnding) × (run_ending e ≡ Some r)
+pub ends : (e : Ending Value) → NotWrong e → (r : RunEnding) × (run_ending e ≡ Some r)
 ends (Gave v s) h = (ending.Done, refl)
 ends (Over k) h = (limit_ending k, refl)
 ends Wrong h = absurd h
 
 module _ (source : List ℕ) (ss : List Stmt) (steps : ℕ) (input : List ℕ) (a : IsAcceptedBody source ss) where
   -- the run that ends so
-  is_run : (r : RunEnding) → run_ending (whole (program_of ss) steps input).ending ≡ Some r → IsRun source steps input (record { events = (whole (program_of ss) steps input).events; ending = r })
+  pub is_run : (r : RunEnding) → run_ending (whole (program_of ss) steps input).ending ≡ Some r → IsRun source steps input (record { events = (whole (program_of ss) steps input).events; ending = r })
   is_run r e = record { program = program_of ss; is_program = is_program source ss a; events = refl; ending = e }
 
   runs_whole : (old new : OutputState) (r : RunEnding) → RunsWhole (program_of ss) steps input old new r → executing.RunsWhole source steps input old new r

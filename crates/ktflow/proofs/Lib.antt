@@ -10,3 +10,4 @@ pub mod FromInvocation
 pub mod Fronts
 pub mod Completeness
 pub mod Headlines
+pub mod SomeCourse
