@@ -1,11 +1,11 @@
 -- Spans begin and end at characters.
-use Rattle.std.proofs.Common.{◌≡◌, ℕ, zero, suc, ◌+◌, ◌-◌, ◌<◌, ◌≤◌, Bool, true, false, ◌&&◌, ◌||◌, ◌==◌, List, [], ◌∷◌, ◌++◌, length, take, Option, Some, None, refl, sym, ap, ◌∙◌, inl, inr, arith, append_assoc, length-append, subst}
+use Rattle.std.proofs.Common.{◌≡◌, ℕ, zero, suc, ◌+◌, ◌-◌, Bool, true, false, ◌&&◌, ◌||◌, ◌==◌, List, [], ◌∷◌, ◌++◌, length, take, Option, Some, None, refl, sym, ap, ◌∙◌, inl, inr, arith, append_assoc, length-append, subst}
 use Rattle.std.proofs.lemmas.Bool.{cases_Bool, and_parts}
 use Rattle.std.proofs.lemmas.Str.{encodes-chars, encodes-append, scalars-chars, IsCharBoundary-at_seam}
 use lib.Utf8.{encodes, scalars, scalar}
 use Rattle.std.specs.Str.{chars, IsUtf8, IsCharBoundary}
 use Rattle.kt_tree.specs.declared.token.Kind.{Kind}
-use Rattle.kt_tree.specs.declared.token.Kind.TheVariants.{OpenRound, OpenSquare, OpenBrace, ExprPart, Open, End}
+use Rattle.kt_tree.specs.declared.token.Kind.TheVariants.{Open, End}
 use Rattle.kt_tree.specs.Brackets.{Bracket, round, square, brace, part, quote, innermost, opened, closes, brackets_after, counts_lines, last_quote, open_quote}
 use Rattle.kt_tree.specs.Layout.{AtCharacters}
 use Rattle.kt_tree.specs.Lexemes.{Lexeme, fixed, name, return_at, number, piece, name_part}

@@ -27,5 +27,4 @@ pub fn spans_are_at_characters()
     ensures tokens { (text : List ℕ) (ts : List Lexed) → IsUtf8 text → AreTokens (chars text) ts → AtCharacters text ts }
     ensures start { (text : List ℕ) (a b : ℕ) → IsUtf8 text → IsBadPlace (chars text) a b → IsCharBoundary text a }
     ensures end { (text : List ℕ) (a b : ℕ) → IsUtf8 text → IsBadPlace (chars text) a b → IsCharBoundary text b }
-{
-}
+{}
