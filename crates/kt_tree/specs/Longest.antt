@@ -1,4 +1,5 @@
--- The longest token at the front of a text. Kotlin's specification, "Lexical grammar".
+-- The longest token at the front of a text. Kotlin's specification, "Lexical grammar". All fronts are tried, from the longest down; the code goes over
+-- the characters once.
 use Rattle.std.specs.Prelude.{ℕ, zero, suc, List, take, drop, length, Option, Some, None, option_map}
 use Rattle.kt_tree.specs.Lexemes.{Lexeme}
 

@@ -1,4 +1,5 @@
--- What stands at the front of a text. Kotlin's specification, "Whitespace and comments"; that a comment counts as one space is its own sentence.
+-- What stands at the front of a text. Kotlin's specification, "Whitespace and comments"; that a comment counts as one space is
+-- its own sentence.
 use Rattle.std.specs.Prelude.{ℕ, zero, suc, Bool, true, false, not, ◌&&◌, ◌==◌, if◌then◌else◌, List, [], ◌∷◌, Option, Some, None}
 use Rattle.kt_tree.specs.Brackets.{Bracket, in_string}
 use Rattle.kt_tree.specs.Characters.{is_space, is_line_end}

@@ -1,4 +1,5 @@
--- Tokens whose names have numbers. A name's number is its place in the table: the built-in names first, then the others in the order in which they first come. This project's own.
+-- Tokens whose names have numbers. A name's number is its place in the table: the built-in names first, then the others in the order in which they first come. This project's own. A
+-- name's place is looked for from the front of the list; the code has a hash table.
 use Rattle.std.specs.Prelude.{◌≡◌, ℕ, List, [], ◌∷◌}
 use Rattle.std.specs.Str.{encode_utf8_all}
 use Rattle.kt_tree.specs.Lexemes.{Lexeme, fixed, name, return_at, number, piece, name_part}

@@ -1,4 +1,5 @@
--- The tokens of a text, or the place where none can be formed. The code is a scanner with a state; here a text and a whole list stand in a relation. Which failure is named is this project's own.
+-- The tokens of a text, or the place where none can be formed. The code is a scanner with a state; here a text and a whole list stand in a relation. Which
+-- failure is named is this project's own.
 use Rattle.std.specs.Prelude.{◌≡◌, ℕ, zero, suc, Bool, false, ◌&&◌, ◌||◌, List, [], ◌∷◌, Option, Some, None}
 use Rattle.kt_tree.specs.declared.token.Kind.TheVariants.{End}
 use Rattle.kt_tree.specs.Brackets.{Bracket, brackets_after, counts_lines, open_quote}

@@ -1,4 +1,5 @@
--- The tokens outside strings: which characters, before which others, are one token. Kotlin's specification, "Lexical grammar", narrowed.
+-- The tokens outside strings: which characters, before which others, are one token. Kotlin's specification, "Lexical grammar", narrowed. These are tests of
+-- whole words; the code never has a word before it has read it.
 use Rattle.std.specs.Prelude.{ℕ, Bool, true, false, not, ◌&&◌, if◌then◌else◌, List, [], ◌∷◌, take, drop, codes, Option, Some, None, is_some, option_map}
 use Rattle.std.specs.List.{list_all}
 use Rattle.kt_tree.specs.declared.token.Kind.{Kind}

@@ -1,10 +1,10 @@
 //! Texts and their tokens.
 use anyhow::{Result, anyhow};
 use kt_lex::{LexFault, lex};
-use kt_tree::{Kind, Names, Source, Span, Token};
+use kt_tree::{Kind, Names, NoMemory, Source, Span, Token};
 use std::alloc::{AllocError, Global};
 
-/// Prints each line of the input and the tokens of the text that it stands for.
+/// Prints each line of the input and the tokens of the text that it stands for, and last how the want of memory is told.
 pub fn run(rt: &(impl Print + Input + AllocGlobal)) -> Result<()> {
     for line in rt.lines(rt.alloc()) {
         let line = line?;
@@ -12,6 +12,7 @@ pub fn run(rt: &(impl Print + Input + AllocGlobal)) -> Result<()> {
         let answer = answer(rt.alloc(), text)?;
         println!(rt; "{line} =>{answer}")?;
     }
+    println!(rt; "{} {}", NoMemory, LexFault::NoMemory)?;
     Ok(())
 }
 
