@@ -1,0 +1,4 @@
+pub mod Chains
+pub mod Flow
+pub mod Problems
+pub mod Words

@@ -1,0 +1,16 @@
+//! Equations over the edges of a graph: which nodes are reached from the entry, and which pairs are set along
+//! every path to them.
+#![tactic(auto)]
+
+mod apply;
+mod chains;
+mod effect;
+mod lanes;
+mod problem;
+mod steps;
+mod words;
+
+pub use effect::{Edge, Effect, Transfer};
+pub use lanes::meet;
+pub use problem::{NoMemory, Problem};
+pub use steps::Steps;
