@@ -2,5 +2,9 @@ pub mod Applied
 pub mod Bits
 pub mod Four
 pub mod Links
+pub mod Listing
+pub mod Paths
+pub mod RowWords
 pub mod Sums
+pub mod Told
 pub mod WordBits

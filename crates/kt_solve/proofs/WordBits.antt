@@ -67,3 +67,7 @@ put words at value mask h hm q =
       | inr apart ↦ rw (ne_eqb (q / 64) at apart) (ap (λ x. bit_of x (q % 64)) (get_or-set_other words at (q / 64) _ 0 apart))
       | inl e ↦ rw (eq-eqb (q / 64) at e, e) (ap (λ x. bit_of x (q % 64)) (get_or-set_same words at _ 0 h) ∙ replaced (get_or words at 0) value mask (q % 64) hm small)
     ]
+
+-- the bits of a row that was met with another
+pub met : (old from new : List ℕ) (q : ℕ) → get_or new (q / 64) 0 ≡ bit_and (get_or old (q / 64) 0) (get_or from (q / 64) 0) → word_bit new q ≡ (word_bit old q && word_bit from q)
+met old from new q e = ap (λ w. bit_of w (q % 64)) e ∙ bit_of-and (get_or old (q / 64) 0) (get_or from (q / 64) 0) (q % 64)

@@ -6,11 +6,16 @@ mod apply;
 mod chains;
 mod effect;
 mod lanes;
+mod mark;
+mod matrix;
+mod postorder;
 mod problem;
+mod rows;
 mod steps;
 mod words;
 
 pub use effect::{Edge, Effect, Transfer};
 pub use lanes::meet;
 pub use problem::{NoMemory, Problem};
+pub use rows::Rows;
 pub use steps::Steps;
