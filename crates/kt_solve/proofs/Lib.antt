@@ -3,8 +3,12 @@ pub mod Bits
 pub mod Four
 pub mod Links
 pub mod Listing
+pub mod Marking
 pub mod Paths
 pub mod RowWords
+pub mod Solved
+pub mod Starting
 pub mod Sums
 pub mod Told
+pub mod Visiting
 pub mod WordBits

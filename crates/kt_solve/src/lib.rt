@@ -13,9 +13,11 @@ mod problem;
 mod rows;
 mod steps;
 mod words;
+mod worklist;
 
 pub use effect::{Edge, Effect, Transfer};
 pub use lanes::meet;
 pub use problem::{NoMemory, Problem};
 pub use rows::Rows;
 pub use steps::Steps;
+pub use worklist::solve;

@@ -1,6 +1,6 @@
 ghost use Rattle.std.specs.Prelude.{◌≡◌, ℕ, ◌+◌, ◌-◌, ◌<◌, ◌≤◌, [], ◌∷◌, ◌++◌, length, IfOk, OnErr};
 ghost use Rattle.kt_solve.specs.Chains.{IsLink, edge_at};
-ghost use Rattle.kt_solve.specs.Flow.{Flow, TransferFits};
+ghost use Rattle.kt_solve.specs.Flow.{Flow, IsWithin, TransferFits};
 
 use crate::effect::{Edge, Effect, Transfer};
 use crate::steps::Steps;
@@ -123,9 +123,10 @@ impl Problem {
         Ok(())
     }
 
-    /// How many nodes there are.
+    /// How many nodes there are. All numbers of a problem are below its counts.
     pub(crate) fn nodes(&self) -> u32
-        ensures { result ≡ self.now.nodes }
+        ensures count { result ≡ self.now.nodes }
+        ensures within { IsWithin self.now }
     {
         self.nodes
     }
