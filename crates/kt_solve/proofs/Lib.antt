@@ -4,11 +4,14 @@ pub mod Four
 pub mod Links
 pub mod Listing
 pub mod Marking
+pub mod Ordered
+pub mod Passing
 pub mod Paths
 pub mod RowWords
 pub mod Solved
 pub mod Starting
 pub mod Sums
+pub mod Swept
 pub mod Told
 pub mod Visiting
 pub mod WordBits

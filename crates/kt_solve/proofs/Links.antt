@@ -1,14 +1,13 @@
-use Rattle.std.proofs.Common.{◌≡◌, ◌≢◌, ℕ, ◌+◌, ◌-◌, ◌<◌, ◌≤◌, List, [], ◌∷◌, ◌++◌, length, get_or, set, map, arith, refl, ap, sym, subst, ◌∙◌, inl, inr}
-use Rattle.std.specs.List.{All}
+use Rattle.std.proofs.Common.{◌≡◌, ◌≢◌, ℕ, ◌+◌, ◌-◌, ◌<◌, ◌≤◌, List, [], ◌∷◌, ◌++◌, length, get_or, set, arith, refl, ap, sym, subst, ◌∙◌, inl, inr}
 use Rattle.std.proofs.lemmas.Bool.{cases_eq, cases_lt}
-use Rattle.std.proofs.lemmas.List.{get_or-set_same, get_or-set_other, get_or_append_left, get_or_push, length-set, length_push, length-map, map-append, get_or_past}
+use Rattle.std.proofs.lemmas.List.{get_or-set_same, get_or-set_other, get_or_append_left, get_or_push, length-set, length_push, length-map, map-append}
 use Rattle.std.proofs.lemmas.List.Elements.{All-push}
 use Rattle.kt_solve.specs.declared.effect.Edge.{Edge}
 use Rattle.kt_solve.specs.declared.effect.Effect.{Effect}
 use Rattle.kt_solve.specs.declared.problem.LinkedEdge.{LinkedEdge}
 use Rattle.kt_solve.specs.Chains.{IsLink, edge_at}
-use Rattle.kt_solve.specs.Flow.{EdgeFits, IsWithin}
-use Rattle.kt_solve.specs.Problems.{IsProblem, edges_in, before_at, flow_of}
+use Rattle.kt_solve.specs.Flow.{EdgeFits}
+use Rattle.kt_solve.specs.Problems.{IsProblem, edges_in, before_at}
 
 edge_at-push_left : (es : List Edge) (e : Edge) (k : ℕ) → k < length es → edge_at (es ++ e ∷ []) k ≡ edge_at es k
 edge_at-push_left es e k h = get_or_append_left es (e ∷ []) (record { from = 0; to = 0 }) k h

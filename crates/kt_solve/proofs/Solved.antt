@@ -1,9 +1,9 @@
-use Rattle.std.proofs.Common.{◌≡◌, ℕ, ◌<◌, Bool, true, false, ◌&&◌, List, [], ◌∷◌, ◌++◌, length, arith, refl, ap, sym, ◌∙◌}
+use Rattle.std.proofs.Common.{◌≡◌, ℕ, ◌<◌, Bool, true, false, List, [], ◌∷◌, ◌++◌, length, arith, refl, ap, sym, ◌∙◌}
 use Rattle.std.proofs.lemmas.List.{length-map}
 use Rattle.kt_solve.specs.declared.mark.Mark.{Mark}
 use Rattle.kt_solve.specs.Flow.{Flow, Follow, IsPath, IsReached, Holds, along, after, nothing_set, IsWithin}
 use Rattle.kt_solve.specs.Marks.{is_reached, mark_at}
-use Rattle.kt_solve.specs.Search.{IsWitnessed, IsSearch, IsDone, IsAfter}
+use Rattle.kt_solve.specs.Search.{IsSearch, IsDone, IsAfter}
 use Rattle.kt_solve.specs.Table.{Solves, table_of, reached_at, set_at}
 use Rattle.kt_solve.specs.Words.{row_bit}
 use Rattle.kt_solve.proofs.Marking.{true_not_false, read_from, and_left, and_right, and_true}

@@ -1,9 +1,8 @@
-use Rattle.std.proofs.Common.{◌≡◌, ◌≢◌, ℕ, ◌+◌, ◌-◌, ◌*◌, ◌/◌, ◌%◌, ◌^◌, ◌<◌, ◌≤◌, Bool, true, false, eqb, List, [], ◌∷◌, ◌++◌, length, get_or, set, replicate, arith, refl, ap, sym, ◌∙◌, inl, inr}
+use Rattle.std.proofs.Common.{◌≡◌, ◌≢◌, ℕ, ◌+◌, ◌*◌, ◌/◌, ◌%◌, ◌<◌, Bool, true, false, eqb, [], length, get_or, set, replicate, arith, refl, ap, ◌∙◌, inl, inr}
 use Rattle.std.proofs.lemmas.Bool.{cases_eq, cases_lt}
 use Rattle.std.proofs.lemmas.List.{length-set, length-replicate, get_or-replicate, get_or_past}
 use Rattle.std.proofs.lemmas.Nat.{mul-add-lt}
 use Rattle.std.proofs.lemmas.Nat.Bits.{bit_at_ones, bit_at-zero}
-use Rattle.kt_solve.specs.declared.mark.Mark.{Mark}
 use Rattle.kt_solve.specs.declared.mark.Mark.TheVariants.{Unreached, Waiting}
 use Rattle.kt_solve.specs.Flow.{Flow, IsReached, IsWithin}
 use Rattle.kt_solve.specs.Marks.{is_reached, is_read, mark_at}
@@ -35,7 +34,7 @@ mark_at-replicate nodes k = elim (cases_lt k nodes) [
 ]
 
 -- the entry alone is reached at first
-only_entry : (p : Flow) (k : ℕ) → is_reached (mark_at (set (replicate p.nodes Unreached) p.entry Waiting) k) ≡ true → k ≡ p.entry
+pub only_entry : (p : Flow) (k : ℕ) → is_reached (mark_at (set (replicate p.nodes Unreached) p.entry Waiting) k) ≡ true → k ≡ p.entry
 only_entry p k t = elim (cases_eq k p.entry) [
   | inl is ↦ is
   | inr other ↦ true_not_false _ t (ap is_reached (mark_at-set_other (replicate p.nodes Unreached) p.entry k Waiting other ∙ mark_at-replicate p.nodes k))

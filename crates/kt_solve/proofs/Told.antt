@@ -1,11 +1,10 @@
-use Rattle.std.proofs.Common.{◌≡◌, ℕ, ◌+◌, ◌<◌, Bool, false, ◌&&◌, List, [], length, get_or, map, arith, refl, ap, ◌∙◌}
-use Rattle.std.specs.List.{range_with_len}
+use Rattle.std.proofs.Common.{◌≡◌, ℕ, ◌<◌, Bool, false, List, [], length, get_or, arith, ap, ◌∙◌}
 use Rattle.std.proofs.lemmas.List.{get_or-map}
 use Rattle.std.proofs.lemmas.List.FromFn.{get_or-map-range_with_len}
 use Rattle.kt_solve.specs.declared.mark.Mark.{Mark}
 use Rattle.kt_solve.specs.declared.mark.Mark.TheVariants.{Unreached}
 use Rattle.kt_solve.specs.Marks.{is_reached, mark_at}
-use Rattle.kt_solve.specs.Table.{Table, reached_at, set_at, row_of, table_of}
+use Rattle.kt_solve.specs.Table.{reached_at, set_at, row_of, table_of}
 use Rattle.kt_solve.specs.Words.{row_bit}
 
 -- what a table of marks and words tells of a node

@@ -1,4 +1,4 @@
-use Rattle.std.proofs.Common.{◌≡◌, ◌≢◌, ℕ, ◌+◌, ◌-◌, ◌*◌, ◌<◌, ◌≤◌, Bool, true, false, ◌&&◌, cond, ◌⊎◌, List, [], ◌∷◌, ◌++◌, length, get_or, set, arith, refl, ap, sym, subst, ◌∙◌, inl, inr}
+use Rattle.std.proofs.Common.{◌≡◌, ◌≢◌, ℕ, ◌+◌, ◌-◌, ◌*◌, ◌<◌, ◌≤◌, Bool, true, false, ◌&&◌, ◌⊎◌, List, [], ◌∷◌, ◌++◌, length, get_or, set, arith, refl, ap, sym, subst, ◌∙◌, inl, inr}
 use Rattle.std.proofs.lemmas.Bool.{cases_eq, cases_lt, cases_Bool}
 use Rattle.std.proofs.lemmas.List.{length-set, get_or_default, get_or_past}
 use Rattle.std.proofs.lemmas.Nat.{mul-le}
@@ -10,8 +10,8 @@ use Rattle.kt_solve.specs.declared.mark.Mark.{Mark}
 use Rattle.kt_solve.specs.declared.mark.Mark.TheVariants.{Unreached, Waiting, Read}
 use Rattle.kt_solve.specs.Chains.{IsLink, edge_at}
 use Rattle.kt_solve.specs.Flow.{Flow, HasEdge, IsPath, IsWithin, along, after, nothing_set, outcome, transfer_of}
-use Rattle.kt_solve.specs.Marks.{is_reached, is_read, is_waiting, mark_at, weight}
-use Rattle.kt_solve.specs.Search.{Misses, MissesAfter, IsWitnessed, HasTaken, IsSearch, IsAfter, Spreads, Advances, IsVisit, IsDone}
+use Rattle.kt_solve.specs.Marks.{is_reached, is_read, is_waiting, mark_at}
+use Rattle.kt_solve.specs.Search.{MissesAfter, IsWitnessed, HasTaken, IsSearch, IsAfter, Spreads, IsVisit, IsDone}
 use Rattle.kt_solve.specs.Walks.{IsListing}
 use Rattle.kt_solve.proofs.Marking.{true_not_false, and_left, and_right, and_false, mark_at-set_same, mark_at-set_other, reached_keeps}
 use Rattle.kt_solve.proofs.Paths.{Misses_over, IsReached_over, along-push, transfer_within, after_same, CopyWithin}

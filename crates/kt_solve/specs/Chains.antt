@@ -2,7 +2,6 @@ use Rattle.std.specs.Prelude.{◌≡◌, ◌≢◌, ℕ, ◌+◌, ◌-◌, ◌<�
 use Rattle.kt_solve.specs.declared.effect.Transfer.TheVariants.{Keep}
 use Rattle.kt_solve.specs.declared.effect.Edge.{Edge}
 use Rattle.kt_solve.specs.declared.effect.Effect.{Effect}
-use Rattle.kt_solve.specs.Flow.{TransferFits}
 
 -- The edge of a number; past the end one from node 0 to node 0.
 abbrev pub edge_at : List Edge → ℕ → Edge

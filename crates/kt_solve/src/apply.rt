@@ -20,7 +20,8 @@ fn bits_given(effect: &Effect, before: &[u64], pair: u32) -> u64
         Transfer::Keep => before[(pair / 64) as usize],
         Transfer::Set => u64::MAX,
         Transfer::Clear => 0,
-        Transfer::CopyFrom(source) => bits_from(before, source + (pair - effect.first)) << (pair % 64),
+        Transfer::CopyFrom(source) => bits_from(before, source + (pair - effect.first))
+            << (pair % 64),
     }
 }
 
@@ -37,7 +38,12 @@ fn apply_one(effect: &Effect, before: &[u64], out: &mut [u64])
         let low = pair % 64;
         let count = (end - pair).min(64 - low);
         let bits = bits_given(effect, before, pair);
-        put_bits(out, (pair / 64) as usize, bits, bits_between(low, low + count));
+        put_bits(
+            out,
+            (pair / 64) as usize,
+            bits,
+            bits_between(low, low + count),
+        );
         pair += count;
     }
 }

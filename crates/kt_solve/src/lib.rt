@@ -8,6 +8,7 @@ mod effect;
 mod lanes;
 mod mark;
 mod matrix;
+mod once;
 mod postorder;
 mod problem;
 mod rows;
@@ -17,6 +18,7 @@ mod worklist;
 
 pub use effect::{Edge, Effect, Transfer};
 pub use lanes::meet;
+pub use once::solve_once;
 pub use problem::{NoMemory, Problem};
 pub use rows::Rows;
 pub use steps::Steps;

@@ -34,7 +34,13 @@ pub(crate) fn put_row(words: &mut [u64], node: u32, state: &[u64])
 }
 
 /// Gives the state after a node's effects, from the row of the node.
-pub(crate) fn apply_row(p: &Problem, chains: &EffectChains, node: u32, words: &[u64], out: &mut [u64])
+pub(crate) fn apply_row(
+    p: &Problem,
+    chains: &EffectChains,
+    node: u32,
+    words: &[u64],
+    out: &mut [u64],
+)
     requires within { IsWithin p.now }
     requires node { node < p.now.nodes }
     requires chains { IsChained p.now.nodes p.now.effects chains.now.first.items chains.now.next.items }

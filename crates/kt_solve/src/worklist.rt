@@ -117,7 +117,7 @@ fn run<L: Ledger>(
 }
 
 /// Marks the entry, before which no pair is set.
-fn start(entry: u32, nothing: &[u64], marks: &mut [Mark], words: &mut [u64])
+pub(crate) fn start(entry: u32, nothing: &[u64], marks: &mut [Mark], words: &mut [u64])
     requires node { entry < length marks.old }
     requires row { entry * length nothing.now + length nothing.now ≤ length words.old }
     ensures marks { marks.new ≡ set marks.old entry Waiting }
@@ -184,7 +184,9 @@ fn solve_counted<L: Ledger>(alloc: Global, p: &Problem, blank: Blank) -> Result<
     let mut marks = vec![in alloc; Mark::Unreached; nodes]?;
     let mut words = vec![in alloc; u64::MAX; nodes * width]?;
     let mut out = vec![in alloc; 0u64; width]?;
-    search(p, &chains, &order, &mut marks, &mut words, &mut out, &mut steps);
+    search(
+        p, &chains, &order, &mut marks, &mut words, &mut out, &mut steps,
+    );
     Ok(Rows {
         pairs: p.pairs(),
         width,

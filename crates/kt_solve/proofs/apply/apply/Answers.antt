@@ -1,8 +1,6 @@
-use Rattle.std.proofs.Common.{◌≡◌, ℕ, ◌+◌, ◌<◌, length, get_or, arith, refl, ap, sym, ◌∙◌}
+use Rattle.std.proofs.Common.{◌≡◌, ◌+◌, ◌<◌, length, get_or, arith, refl, ◌∙◌}
 use Rattle.std.proofs.lemmas.List.{get_or_default}
-use Rattle.kt_solve.specs.declared.effect.Transfer.TheVariants.{Keep}
 use Rattle.kt_solve.specs.Chains.{IsNext, effect_at}
-use Rattle.kt_solve.specs.Flow.{outcome}
 use Rattle.kt_solve.specs.Words.{word_bit}
 use Rattle.kt_solve.proofs.Applied.{transfer_first, effect_step}
 use Rattle.kt_solve.proofs.apply.apply.Goals as goal

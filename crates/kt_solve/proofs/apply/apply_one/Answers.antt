@@ -1,4 +1,4 @@
-use Rattle.std.proofs.Common.{◌-◌, ◌/◌, ◌%◌, arith}
+use Rattle.std.proofs.Common.{◌-◌, ◌%◌, arith}
 use Rattle.kt_solve.specs.Flow.{moved, outcome}
 use Rattle.kt_solve.specs.Words.{bit_of, word_bit}
 use Rattle.kt_solve.proofs.Applied.{written}

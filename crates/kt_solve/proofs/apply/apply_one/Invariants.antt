@@ -1,4 +1,4 @@
-use Rattle.std.proofs.Common.{◌≡◌, ℕ, ◌+◌, ◌-◌, ◌≤◌, ◌&&◌, cond, leb, ltb, length}
+use Rattle.std.proofs.Common.{◌≡◌, ℕ, ◌+◌, ◌-◌, ◌≤◌, ◌&&◌, cond, leb, ltb}
 use Rattle.kt_solve.specs.Flow.{moved, outcome}
 use Rattle.kt_solve.specs.Words.{word_bit}
 use Rattle.kt_solve.proofs.apply.apply_one.Given as goal

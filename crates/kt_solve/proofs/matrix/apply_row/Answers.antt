@@ -1,5 +1,5 @@
 use Rattle.std.proofs.Common.{length, arith, ◌∙◌}
-use Rattle.kt_solve.specs.Words.{word_bit, row_bit}
+use Rattle.kt_solve.specs.Words.{row_bit}
 use Rattle.kt_solve.proofs.Paths.{after_same}
 use Rattle.kt_solve.proofs.RowWords.{row_part}
 use Rattle.kt_solve.proofs.matrix.apply_row.Goals as goal

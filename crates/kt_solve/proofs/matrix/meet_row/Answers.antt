@@ -1,4 +1,4 @@
-use Rattle.std.proofs.Common.{◌≡◌, ◌+◌, ◌-◌, ◌*◌, ◌/◌, ◌&&◌, length, take, drop, arith, ap, ◌∙◌}
+use Rattle.std.proofs.Common.{◌/◌, ◌&&◌, length, arith, ap, ◌∙◌}
 use Rattle.std.proofs.lemmas.List.{length-take, length-drop}
 use Rattle.kt_solve.specs.Words.{word_bit}
 use Rattle.kt_solve.proofs.RowWords.{rows_others, rows_row, rows_sum, row_part}

@@ -1,4 +1,4 @@
-use Rattle.std.proofs.Common.{ℕ, ◌≡◌, ◌<◌, true, length, sym, ◌∙◌}
+use Rattle.std.proofs.Common.{ℕ, ◌<◌, length, sym, ◌∙◌}
 use Rattle.std.proofs.lemmas.List.Elements.{All-push, Contains-append_left}
 use Rattle.kt_solve.proofs.Listing.{listed_more}
 use Rattle.kt_solve.proofs.postorder.list_others.Goals as goal

@@ -1,4 +1,4 @@
-use Rattle.std.proofs.Common.{◌≡◌, ◌≢◌, ℕ, ◌+◌, ◌*◌, ◌<◌, ◌≤◌, length, arith, ap, sym, ◌∙◌}
+use Rattle.std.proofs.Common.{◌≡◌, ◌≢◌, ℕ, ◌*◌, ◌<◌, ◌≤◌, length, arith, ◌∙◌}
 use borrow.Author.Count.{below_more}
 use Rattle.kt_solve.specs.Search.{IsAfter}
 use Rattle.kt_solve.specs.Words.{row_bit}

@@ -1,4 +1,3 @@
-use Rattle.std.proofs.Common.{ℕ, length, arith}
 use Rattle.kt_solve.proofs.Visiting.{done_all}
 use Rattle.kt_solve.proofs.worklist.run.Goals as goal
 

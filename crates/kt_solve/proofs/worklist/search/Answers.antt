@@ -1,5 +1,4 @@
-use Rattle.std.proofs.Common.{◌≡◌, ◌≢◌, ℕ, ◌*◌, ◌<◌, ◌≤◌, true, length, set, replicate, arith, ap, sym, ◌∙◌}
-use Rattle.kt_solve.specs.declared.mark.Mark.TheVariants.{Unreached, Waiting}
+use Rattle.std.proofs.Common.{ℕ, length, arith}
 use Rattle.kt_solve.specs.Words.{word_bit, row_bit}
 use Rattle.kt_solve.proofs.Solved.{searched, told}
 use Rattle.kt_solve.proofs.Starting.{row_bit-ones, word_bit-zeros, search_begins}

@@ -1,4 +1,4 @@
-use Rattle.std.proofs.Common.{◌≡◌, ℕ, ◌<◌, true, false, length, get_or, arith, refl, sym, ◌∙◌}
+use Rattle.std.proofs.Common.{◌≡◌, ◌<◌, true, false, length, get_or, arith, refl, sym, ◌∙◌}
 use borrow.Author.Count.{below_more}
 use Rattle.kt_solve.specs.Marks.{is_waiting, mark_at}
 use Rattle.kt_solve.proofs.Marking.{advances_then, advances_else, true_not_false}

@@ -1,5 +1,4 @@
-use Rattle.std.proofs.Common.{◌≡◌, ℕ, ◌+◌, ◌-◌, ◌*◌, ◌<◌, ◌≤◌, length, set, arith, refl, ap, sym, ◌∙◌}
-use Rattle.kt_solve.specs.declared.effect.Edge.{Edge}
+use Rattle.std.proofs.Common.{◌≡◌, ◌-◌, ◌*◌, ◌<◌, ◌≤◌, length, set, arith, refl, sym, ◌∙◌}
 use Rattle.kt_solve.specs.declared.mark.Mark.TheVariants.{Read}
 use Rattle.kt_solve.specs.Chains.{edge_at}
 use Rattle.kt_solve.specs.Search.{IsAfter}

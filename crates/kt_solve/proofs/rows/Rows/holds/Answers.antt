@@ -1,9 +1,9 @@
-use Rattle.std.proofs.Common.{◌≡◌, ℕ, ◌+◌, ◌-◌, ◌*◌, ◌<◌, Bool, true, ◌&&◌, length, take, drop, arith, ap, sym, ◌∙◌}
+use Rattle.std.proofs.Common.{◌≡◌, ℕ, ◌<◌, Bool, true, ◌&&◌, length, arith, ap, sym, ◌∙◌}
 use Rattle.std.proofs.lemmas.List.{length-map, get_or_default}
 use Rattle.kt_solve.specs.declared.mark.Mark.TheVariants.{Unreached}
 use Rattle.kt_solve.specs.Marks.{is_reached, mark_at}
 use Rattle.kt_solve.specs.Table.{Table, reached_at, set_at, table_of}
-use Rattle.kt_solve.specs.Words.{word_bit, row_bit}
+use Rattle.kt_solve.specs.Words.{row_bit}
 use Rattle.kt_solve.proofs.RowWords.{row_part}
 use Rattle.kt_solve.proofs.Told.{reached_at-table_of, set_at-table_of}
 use Rattle.kt_solve.proofs.rows.Rows.holds.Goals as goal
