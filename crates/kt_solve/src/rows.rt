@@ -30,7 +30,8 @@ impl Rows {
         requires { node < length self.now.reached }
         ensures { result ≡ reached_at self.now node }
     {
-        self.marks[node as usize].is_reached()
+        let mark = self.marks[node as usize];
+        mark.is_reached()
     }
 
     /// Whether the node is reached and the pair is set along every path to it, after the node's effects. It takes no
