@@ -85,18 +85,28 @@ outcome-cond : (b : Bool) (s t : Transfer) (f : ℕ → Bool) (q : ℕ) → outc
 outcome-cond true s t f q = refl
 outcome-cond false s t f q = refl
 
--- one more effect of the node is written over the state
+-- one more effect of the node counts
+pub transfer_step : (es : List Effect) (at next n q : ℕ) (t t' : Transfer) → at < length es → (effect_at es at).node ≡ n → IsNext es (at + 1) n next
+    → t ≡ transfer_after (take at es) n q Keep
+    → t' ≡ cond (in_range (effect_at es at) q) (moved (effect_at es at).transfer (q - (effect_at es at).first)) t
+    → t' ≡ transfer_after (take next es) n q Keep
+transfer_step es at next n q t t' h same k ih e =
+    let d : (at + 1) + (next - (at + 1)) ≡ next = omega (arith, k.beyond) in
+    let skip = transfer_skips es n q Keep (at + 1) (next - (at + 1)) (omega (arith, d, k.within)) (λ j l m. k.gap j l (omega (arith, d, m))) in
+    let node : covers (effect_at es at) n q ≡ in_range (effect_at es at) q = ap (λ b. b && in_range (effect_at es at) q) (eq-eqb (effect_at es at).node n same) in
+    e
+    ∙ ap (λ z. cond (in_range (effect_at es at) q) (moved (effect_at es at).transfer (q - (effect_at es at).first)) z) ih
+    ∙ sym (transfer_more es at n q Keep h ∙ ap (λ b. cond b (moved (effect_at es at).transfer (q - (effect_at es at).first)) (transfer_after (take at es) n q Keep)) node)
+    ∙ sym skip
+    ∙ ap (λ k. transfer_after (take k es) n q Keep) d
+
+-- and is written over the state
 pub effect_step : (es : List Effect) (at next n q : ℕ) (f : ℕ → Bool) (x y : Bool) → at < length es → (effect_at es at).node ≡ n → IsNext es (at + 1) n next
     → x ≡ outcome (transfer_after (take at es) n q Keep) f q
     → y ≡ cond (in_range (effect_at es at) q) (outcome (moved (effect_at es at).transfer (q - (effect_at es at).first)) f q) x
     → y ≡ outcome (transfer_after (take next es) n q Keep) f q
 effect_step es at next n q f x y h same k ih e =
-    let d : (at + 1) + (next - (at + 1)) ≡ next = omega (arith, k.beyond) in
-    let skip = transfer_skips es n q Keep (at + 1) (next - (at + 1)) (omega (arith, d, k.within)) (λ j l m. k.gap j l (omega (arith, d, m))) in
-    let node : covers (effect_at es at) n q ≡ in_range (effect_at es at) q = ap (λ b. b && in_range (effect_at es at) q) (eq-eqb (effect_at es at).node n same) in
-    let more = transfer_more es at n q Keep h in
     e
     ∙ ap (λ z. cond (in_range (effect_at es at) q) (outcome (moved (effect_at es at).transfer (q - (effect_at es at).first)) f q) z) ih
     ∙ sym (outcome-cond (in_range (effect_at es at) q) (moved (effect_at es at).transfer (q - (effect_at es at).first)) (transfer_after (take at es) n q Keep) f q)
-    ∙ ap (λ t. outcome t f q) (sym (more ∙ ap (λ b. cond b (moved (effect_at es at).transfer (q - (effect_at es at).first)) (transfer_after (take at es) n q Keep)) node))
-    ∙ ap (λ t. outcome t f q) (sym skip ∙ ap (λ k. transfer_after (take k es) n q Keep) d)
+    ∙ ap (λ t. outcome t f q) (transfer_step es at next n q (transfer_after (take at es) n q Keep) (cond (in_range (effect_at es at) q) (moved (effect_at es at).transfer (q - (effect_at es at).first)) (transfer_after (take at es) n q Keep)) h same k refl refl)

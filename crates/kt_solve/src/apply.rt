@@ -1,6 +1,6 @@
 ghost use Rattle.std.specs.Prelude.{◌≡◌, ℕ, ◌+◌, ◌-◌, ◌*◌, ◌/◌, ◌%◌, ◌^◌, ◌<◌, ◌≤◌, cond, length};
 ghost use Rattle.kt_solve.specs.Chains.{IsChained};
-ghost use Rattle.kt_solve.specs.Flow.{moved, outcome, in_range, after, IsWithin, RangeFits};
+ghost use Rattle.kt_solve.specs.Flow.{moved, outcome, in_range, after, transfer_of, IsWithin, RangeFits};
 ghost use Rattle.kt_solve.specs.Words.{bit_of, word_bit};
 
 use crate::chains::EffectChains;
@@ -64,4 +64,24 @@ pub(crate) fn apply(p: &Problem, chains: &EffectChains, node: u32, before: &[u64
         apply_one(&effects[at], before, out);
         at = chains.next[at];
     }
+}
+
+/// The transfer of a pair at a node.
+pub(crate) fn transfer_at(p: &Problem, chains: &EffectChains, node: u32, pair: u32) -> Transfer
+    requires within { IsWithin p.now }
+    requires node { node < p.now.nodes }
+    requires chains { IsChained p.now.nodes p.now.effects chains.now.first.items chains.now.next.items }
+    ensures { result ≡ transfer_of p.now node pair }
+{
+    let effects = p.effects();
+    let mut transfer = Transfer::Keep;
+    let mut at = chains.first[node as usize];
+    while at < effects.len() {
+        let effect = &effects[at];
+        if effect.covers(pair) {
+            transfer = effect.transfer.moved(pair - effect.first);
+        }
+        at = chains.next[at];
+    }
+    transfer
 }

@@ -9,6 +9,7 @@ mod lanes;
 mod mark;
 mod matrix;
 mod once;
+mod order;
 mod postorder;
 mod problem;
 mod rows;

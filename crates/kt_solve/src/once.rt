@@ -1,5 +1,4 @@
-ghost use Rattle.std.specs.Prelude.{◌≡◌, ◌≢◌, ℕ, ◌+◌, ◌*◌, ◌<◌, ◌≤◌, length, get_or, slice_index, set, replicate, IfOk, OnOk, OnErr};
-ghost use Rattle.std.specs.List.{All};
+ghost use Rattle.std.specs.Prelude.{◌≡◌, ℕ, ◌+◌, ◌*◌, ◌<◌, ◌≤◌, length, get_or, replicate, IfOk, OnOk, OnErr};
 ghost use Rattle.kt_solve.specs.declared.mark.Mark.TheVariants.{Unreached};
 ghost use Rattle.kt_solve.specs.Orders.{HasLoops, IsOrder, place_of};
 ghost use Rattle.kt_solve.specs.Search.{IsOver};
@@ -10,11 +9,12 @@ ghost use Rattle.kt_solve.specs.Words.{word_bit, row_bit};
 use crate::chains::{EffectChains, chain_effects};
 use crate::mark::Mark;
 use crate::matrix::apply_row;
+use crate::order::places_of;
 use crate::problem::{NoMemory, Problem};
 use crate::rows::Rows;
 use crate::steps::Steps;
 use crate::worklist::{finish, row_width, spread, start};
-use std::alloc::{AllocError, Global};
+use std::alloc::Global;
 use std::sync::ledger::Ledger;
 
 /// Reads the edges of a node, and takes its state over those that lead onwards in the order.
@@ -73,22 +73,6 @@ fn sweep_once<L: Ledger>(
     }
 }
 
-/// The place of each node in the order.
-fn places_of(alloc: Global, order: &[u32]) -> Result<Vec<u32>, AllocError>
-    requires small { length order.now < 4294967296 }
-    requires within { All (λ (n : ℕ). n < length order.now) order.now }
-    requires listed { (n : ℕ) → n < length order.now → place_of order.now n < length order.now }
-    requires once { (i : ℕ) → i < length order.now → place_of order.now (slice_index order.now i) ≡ i }
-    ensures { IfOk result (λ v. ArePlaces order.now v.items (length order.now)) }
-{
-    let mut places = vec![in alloc; 0u32; order.len()]?;
-    for at in 0..order.len() {
-        let node = order[at];
-        places[node as usize] = at as u32;
-    }
-    Ok(places)
-}
-
 /// Finds all rows in one sweep, over marks and rows in their first state.
 fn search_once<L: Ledger>(
     p: &Problem,
@@ -135,7 +119,7 @@ pub fn solve_once<L: Ledger>(
     let nodes = p.nodes() as usize;
     let width = row_width(p.pairs());
     let chains = chain_effects(alloc, p.nodes(), p.effects())?;
-    let places = places_of(alloc, order)?;
+    let places = places_of(alloc, p.nodes(), order)?;
     let mut marks = vec![in alloc; Mark::Unreached; nodes]?;
     let mut words = vec![in alloc; u64::MAX; nodes * width]?;
     let mut out = vec![in alloc; 0u64; width]?;

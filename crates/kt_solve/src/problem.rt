@@ -152,6 +152,13 @@ impl Problem {
         &self.effects
     }
 
+    /// How many edges there are.
+    pub(crate) fn edge_count(&self) -> usize
+        ensures { result ≡ length self.now.edges }
+    {
+        self.edges.len()
+    }
+
     /// The link of a node's last edge, 0 where it has none.
     pub(crate) fn last_link(&self, node: u32) -> usize
         requires { node < self.now.nodes }
