@@ -3,6 +3,7 @@ pub mod Bits
 pub mod Four
 pub mod Links
 pub mod Listing
+pub mod LoopTests
 pub mod Marking
 pub mod Ordered
 pub mod Passing

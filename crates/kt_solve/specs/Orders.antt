@@ -42,3 +42,8 @@ pub record IsLoop (p : Flow) (place : ℕ → ℕ) (u v : ℕ) : Type 0 where
 -- Each edge from a node to one at an earlier or the same place is such an edge back.
 abbrev pub HasLoops : Flow → (ℕ → ℕ) → Type 0
 HasLoops p place = (u v : ℕ) → HasEdge p u v → place v ≤ place u → IsLoop p place u v
+
+-- What `solve_once` needs of an order.
+pub record CanSolveOnce (p : Flow) (order : List ℕ) : Type 0 where
+  pub order_is : IsOrder p order
+  pub loops : HasLoops p (place_of order)

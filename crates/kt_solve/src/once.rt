@@ -1,6 +1,6 @@
 ghost use Rattle.std.specs.Prelude.{◌≡◌, ℕ, ◌+◌, ◌*◌, ◌<◌, ◌≤◌, length, get_or, replicate, IfOk, OnOk, OnErr};
 ghost use Rattle.kt_solve.specs.declared.mark.Mark.TheVariants.{Unreached};
-ghost use Rattle.kt_solve.specs.Orders.{HasLoops, IsOrder, place_of};
+ghost use Rattle.kt_solve.specs.Orders.{CanSolveOnce, HasLoops, IsOrder, place_of};
 ghost use Rattle.kt_solve.specs.Search.{IsOver};
 ghost use Rattle.kt_solve.specs.Sweeps.{ArePlaces, CanPass, IsSettledBelow, IsSweep, edges_from, edges_of};
 ghost use Rattle.kt_solve.specs.Table.{Solves, table_of};
@@ -103,15 +103,14 @@ fn search_once<L: Ledger>(
 ///
 /// The order lists each node once, the entry first. Of each edge from a node to one at an earlier or the same place it
 /// asks that no edge leads from before the loop into it but to its head, that the head copies nothing, and that it
-/// clears what the loop can lose. NoMemory where there is none for the rows; then no edge has been read.
+/// clears what the loop can lose; `can_solve_once` tests an order. NoMemory where there is none for the rows; then no edge has been read.
 pub fn solve_once<L: Ledger>(
     alloc: Global,
     p: &Problem,
     order: &[u32],
     steps: &mut Steps<L>,
 ) -> Result<Rows, NoMemory>
-    requires order { IsOrder p.now order.now }
-    requires loops { HasLoops p.now (place_of order.now) }
+    requires { CanSolveOnce p.now order.now }
     ensures rows { IfOk result (λ rows. Solves p.now rows) }
     ensures steps { OnOk result (steps.new ≡ steps.old + length p.now.edges) }
     ensures memory { OnErr result (steps.new ≡ steps.old) }

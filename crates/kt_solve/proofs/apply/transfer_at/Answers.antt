@@ -1,7 +1,6 @@
-use Rattle.std.proofs.Common.{◌≡◌, ◌+◌, ◌-◌, ◌<◌, ◌≤◌, cond, length, get_or, arith, sym, ◌∙◌}
+use Rattle.std.proofs.Common.{◌≡◌, ◌+◌, ◌-◌, ◌<◌, cond, length, get_or, arith, sym, ◌∙◌}
 use Rattle.std.proofs.lemmas.Bool.{cond-true, cond-false}
 use Rattle.std.proofs.lemmas.List.{get_or_default}
-use Rattle.kt_solve.specs.declared.effect.Transfer.TheVariants.{Keep}
 use Rattle.kt_solve.specs.Chains.{IsNext, effect_at}
 use Rattle.kt_solve.specs.Flow.{in_range, moved}
 use Rattle.kt_solve.proofs.Applied.{transfer_first, transfer_step}

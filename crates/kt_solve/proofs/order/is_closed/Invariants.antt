@@ -1,4 +1,4 @@
-use Rattle.std.proofs.Common.{◌≡◌, ℕ, ◌<◌, ◌≤◌, get_or}
+use Rattle.std.proofs.Common.{ℕ, ◌<◌, ◌≤◌, get_or}
 use Rattle.kt_solve.specs.Chains.{edge_at}
 use Rattle.kt_solve.proofs.order.is_closed.Given as goal
 
