@@ -1,0 +1,9 @@
+//! The written meaning of an accepted program: values, what an evaluation does to a state, and the course of a run. The definitions stand in
+//! specs/; below are the trees and the written rules, above the laws of soundness and the interpreter.
+#![tactic(auto)]
+
+mod laws;
+mod value;
+
+pub use laws::{depth_is_no_part, one_run};
+pub use value::{Limit, RunEnding, Value};

@@ -1,0 +1,3 @@
+pub mod ByteFacts
+pub mod TokenMoves
+pub mod StatementRuns

@@ -1,0 +1,5 @@
+pub mod SlotLemmas
+pub mod Chain
+pub mod TreeSteps
+pub mod Blocks
+pub mod Wholes

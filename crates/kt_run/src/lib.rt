@@ -1,0 +1,10 @@
+//! The interpreter: it runs an accepted body and puts its text on an output, exactly as the written meaning says. Below are the written meaning and
+//! the traits of the outside, above it the program. It has no answer for a wrong use: its one public call requires that none comes, which
+//! soundness gives of every accepted source.
+#![tactic(auto)]
+
+mod interpreter;
+mod locals;
+mod state;
+
+pub use interpreter::{End, run};

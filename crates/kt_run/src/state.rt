@@ -1,0 +1,30 @@
+//! The state of a run, and why an evaluation gives no value.
+use crate::locals::Locals;
+use kt_mean::Limit;
+use std::alloc::AllocError;
+
+/// The locals of the frame under way, and the steps left.
+#[derive(Drop)]
+pub(crate) struct State {
+    pub(crate) locals: Locals,
+    pub(crate) steps: u64,
+}
+
+/// Why an evaluation gives no value: by the meaning, or for a reason outside it.
+#[derive(Clone, Copy, Debug, PartialEq, Eq)]
+pub(crate) enum Halt {
+    Over(Limit),
+    OutputFault,
+    NoMemory,
+}
+
+impl From<AllocError> for Halt {
+    ghost use Rattle.std.specs.Prelude.{◌≡◌};
+    ghost use Rattle.kt_run.specs.declared.state.Halt.TheVariants as halt;
+
+    ghost from_gives = { λ _ h. h ≡ halt.NoMemory };
+
+    fn from(_: AllocError) -> Halt {
+        Halt::NoMemory
+    }
+}

@@ -1,0 +1,11 @@
+//! Soundness: what the written rules accept is never wrong. Below are the written rules and the written meaning; the interpreter above rests on
+//! this one law, which is a statement about definitions and takes no memory.
+#![tactic(auto)]
+
+ghost use Rattle.kt_sound.specs.Soundness.{NeverWrong};
+
+/// For every accepted source, every input and every number of steps the written meaning does not end by a wrong use: no local that holds nothing
+/// is read, no `val` that holds a value is assigned, no dead tree is entered.
+pub fn never_wrong()
+    ensures { NeverWrong }
+{}

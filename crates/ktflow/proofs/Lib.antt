@@ -1,0 +1,13 @@
+pub mod LanguageLaws
+pub mod Executions
+pub mod OneCourse
+pub mod FetchSteps
+pub mod Endings
+pub mod Courses
+pub mod Performing
+pub mod ByStop
+pub mod FromInvocation
+pub mod Fronts
+pub mod Completeness
+pub mod Headlines
+pub mod SomeCourse

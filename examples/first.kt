@@ -1,0 +1,5 @@
+fun main() {
+    val x: Int
+    x = 2
+    println(x)
+}

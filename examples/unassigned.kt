@@ -1,0 +1,5 @@
+fun main() {
+    var count: Int
+    println(count)
+    count = 1
+}
