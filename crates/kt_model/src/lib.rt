@@ -3,3 +3,4 @@
 #![tactic(auto)]
 
 pub mod finding;
+pub mod graph;
