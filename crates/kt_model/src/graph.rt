@@ -48,7 +48,7 @@ pub enum Known {
 }
 
 /// A variable of a body: a local, by the number of its declaration, or a field of the class, by its place there.
-#[derive(Clone, Copy, Debug, PartialEq, Eq)]
+#[derive(Clone, Copy, Debug, PartialEq, Eq, Hash)]
 pub enum Variable {
     Local(u32),
     Field(u32),
