@@ -1,1 +1,2 @@
--- nothing yet
+pub mod Statuses
+pub mod Transfers

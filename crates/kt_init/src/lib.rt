@@ -5,5 +5,10 @@
 //! `NodePaths` says of all paths, one at a time.
 #![tactic(auto)]
 
+mod init;
 mod numbers;
+mod problem;
 
+
+pub use init::{Init, analyse};
+pub use kt_model::status::Status;

@@ -24,6 +24,13 @@ pub(crate) fn number_variables(alloc: Global, variables: &[Variable]) -> Result<
 }
 
 impl Numbers {
+    /// How many there are.
+    pub(crate) fn len(&self) -> usize
+        ensures { result ≡ length self.now.variables.keys }
+    {
+        self.variables.len()
+    }
+
     /// The number of a variable, None where it has none.
     pub(crate) fn of(&self, variable: Variable) -> Option<usize>
         ensures { MatchOption result ((k : ℕ) → k < length self.now.variables.keys → slice_index_or self.now.variables.keys k (Local 0) ≢ variable) (λ k. slice_get self.now.variables.keys k ≡ Some variable) }

@@ -41,14 +41,18 @@ variable_is (Local a) (Field b) = false
 variable_is (Field a) (Local b) = false
 variable_is (Field a) (Field b) = nat_eq a b
 
--- Whether a variable is assigned after effects, by whether it was before: a declaration makes it unassigned, an assignment assigned.
+-- Whether a variable is assigned after an effect, by whether it was before: a declaration makes it unassigned, an assignment assigned.
+abbrev pub assigned_by : FlowEffect → Variable → Bool → Bool
+assigned_by (Read y) x before = before
+assigned_by (Declare y) x before = if variable_is y x then false else before
+assigned_by (Assign y known) x before = if variable_is y x then true else before
+assigned_by (Assume facts) x before = before
+assigned_by (Kill root) x before = before
+
+-- Whether it is after effects, in their order.
 abbrev pub assigned_after : List FlowEffect → Variable → Bool → Bool
 assigned_after [] x before = before
-assigned_after (Read y ∷ rest) x before = assigned_after rest x before
-assigned_after (Declare y ∷ rest) x before = assigned_after rest x (if variable_is y x then false else before)
-assigned_after (Assign y known ∷ rest) x before = assigned_after rest x (if variable_is y x then true else before)
-assigned_after (Assume facts ∷ rest) x before = assigned_after rest x before
-assigned_after (Kill root ∷ rest) x before = assigned_after rest x before
+assigned_after (e ∷ rest) x before = assigned_after rest x (assigned_by e x before)
 
 -- Whether it is assigned after a path. At first no variable is.
 abbrev pub assigned_along : Graph → List ℕ → Variable → Bool
