@@ -1,4 +1,4 @@
-use Rattle.std.proofs.Common.{◌≡◌, ℕ, ◌+◌, ◌*◌, ◌<◌, Bool, true, false, cond, not, ◌&&◌, ◌⊎◌, ◌↔◌, List, [], ◌∷◌, ◌++◌, length, map, get_or, arith, refl, ap, sym, ◌∙◌, inl, inr}
+use Rattle.std.proofs.Common.{◌≡◌, ℕ, ◌+◌, ◌*◌, ◌<◌, Bool, true, false, cond, not, ◌⊎◌, List, [], ◌∷◌, ◌++◌, length, map, get_or, arith, refl, ap, sym, ◌∙◌, inl, inr}
 use Rattle.std.specs.List.{Contains}
 use Rattle.std.proofs.lemmas.List.{append-nil, append_assoc, get_or-map, length-map}
 use Rattle.std.proofs.lemmas.List.Elements.{All-contains, Contains-append_left, Contains-push, Contains-push_cases}
@@ -13,7 +13,7 @@ use Rattle.kt_solve.specs.declared.effect.Edge.{Edge}
 use Rattle.kt_solve.specs.declared.effect.Transfer.{Transfer}
 use Rattle.kt_solve.specs.declared.effect.Transfer.TheVariants.{Keep}
 use Rattle.kt_solve.specs.Flow.{Flow, HasEdge, Follow, IsPath, IsReached, IsSetAlongAll, along, after, nothing_set, outcome}
-use Rattle.kt_init.specs.Transfers.{IsProblemOf, change_in, change_transfer, edge_of, effect_transfer, marked, side_of, side_transfer, transfer_to}
+use Rattle.kt_init.specs.Transfers.{IsProblemOf, edge_of, effect_transfer, marked, side_of, side_transfer}
 
 -- ---- edges
 

@@ -3,11 +3,11 @@ use Rattle.std.proofs.lemmas.Bool.{true≢false}
 use Rattle.std.proofs.lemmas.List.FromFn.{get_or-map-range_with_len, length-map-range_with_len}
 use Rattle.kt_model.specs.declared.graph.Graph.{Graph}
 use Rattle.kt_model.specs.declared.status.Status.{Status}
-use Rattle.kt_model.specs.declared.status.Status.TheVariants.{Unassigned, Assigned, Either, Unreached}
+use Rattle.kt_model.specs.declared.status.Status.TheVariants.{Assigned, Unreached}
 use Rattle.kt_model.specs.NodePaths.{HasStatus, IsGraph, variable_at}
 use Rattle.kt_solve.specs.Flow.{Flow, Holds, IsReached}
 use Rattle.kt_solve.specs.Table.{Table, Solves, holds_at, reached_at as node_reached}
-use Rattle.kt_init.specs.Statuses.{Analyses, HasStatuses, Statuses, reached_at, status_at, status_by, status_of, status_row, statuses_of}
+use Rattle.kt_init.specs.Statuses.{Analyses, Statuses, reached_at, status_at, status_by, status_of, status_row, statuses_of}
 use Rattle.kt_init.specs.Transfers.{IsProblemOf}
 use Rattle.kt_init.proofs.Along.{has_from, has_to, lacks_from, lacks_to, reached_from, reached_to}
 

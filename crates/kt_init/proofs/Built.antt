@@ -1,13 +1,11 @@
-use Rattle.std.proofs.Common.{◌≡◌, ℕ, ◌+◌, ◌-◌, ◌*◌, ◌<◌, ◌≤◌, Bool, true, false, cond, ◌&&◌, eqb, leb, ltb, List, [], ◌∷◌, ◌++◌, length, map, arith, refl, ap, sym, ◌∙◌, inl, inr}
-use Rattle.std.proofs.lemmas.Bool.{cases_eq, lt-ltb, le-leb, lt-leb, eq-eqb, ne_eqb}
-use Rattle.kt_model.specs.declared.graph.EdgeRow.{EdgeRow}
+use Rattle.std.proofs.Common.{◌≡◌, ℕ, ◌+◌, ◌-◌, ◌*◌, ◌<◌, Bool, true, false, cond, ◌&&◌, eqb, leb, ltb, [], ◌∷◌, ◌++◌, length, map, arith, refl, ap, ◌∙◌}
+use Rattle.std.proofs.lemmas.Bool.{lt-ltb, le-leb, lt-leb, eq-eqb, ne_eqb}
 use Rattle.kt_model.specs.declared.graph.Graph.{Graph}
-use Rattle.kt_model.specs.NodePaths.{IsEdgeWithin, IsGraph, effects_of, entry_of, variable_at}
-use Rattle.kt_solve.specs.declared.effect.Edge.{Edge}
+use Rattle.kt_model.specs.NodePaths.{effects_of, entry_of, variable_at}
 use Rattle.kt_solve.specs.declared.effect.Transfer.{Transfer}
 use Rattle.kt_solve.specs.declared.effect.Transfer.TheVariants.{Keep, Set, CopyFrom}
 use Rattle.kt_solve.specs.Flow.{Flow, transfer_of}
-use Rattle.kt_init.specs.Transfers.{AddsCopies, AddsEffects, AddsNodes, IsProblemOf, SameFrame, edge_of, side_transfer}
+use Rattle.kt_init.specs.Transfers.{AddsCopies, AddsNodes, IsProblemOf, SameFrame, edge_of, side_transfer}
 
 abbrev base : Graph → Flow
 base g = record {

@@ -1,10 +1,9 @@
-use Rattle.std.proofs.Common.{◌≡◌, ◌≢◌, ℕ, ◌+◌, ◌-◌, ◌<◌, ◌≤◌, Bool, true, false, cond, not, ◌&&◌, ◌||◌, eqb, leb, ltb, List, [], ◌∷◌, ◌++◌, Option, Some, None, length, take, get_or, arith, refl, ap, sym, ◌∙◌, inl, inr}
+use Rattle.std.proofs.Common.{◌≡◌, ◌≢◌, ℕ, ◌+◌, ◌-◌, ◌<◌, ◌≤◌, Bool, true, false, cond, not, ◌&&◌, ◌||◌, eqb, leb, ltb, List, [], ◌∷◌, ◌++◌, Some, None, length, take, get_or, arith, refl, ap, sym, ◌∙◌, inl, inr}
 use Rattle.std.specs.List.{slice_get}
-use Rattle.std.proofs.lemmas.Bool.{cases_eq, cases_lt, lt-ltb, le-ltb, le-leb, lt-leb, eq-eqb, ne_eqb, and_right}
+use Rattle.std.proofs.lemmas.Bool.{cases_eq, cases_lt, lt-ltb, le-ltb, le-leb, lt-leb, eq-eqb, ne_eqb}
 use Rattle.std.proofs.lemmas.List.{take_more}
 use Rattle.std.proofs.lemmas.Option.{slice_get_within, get_or_from_slice_get}
 use Rattle.kt_model.specs.declared.graph.FlowEffect.{FlowEffect}
-use Rattle.kt_model.specs.declared.graph.FlowEffect.TheVariants.{Read, Declare, Assign, Assume, Kill}
 use Rattle.kt_model.specs.declared.graph.Variable.{Variable}
 use Rattle.kt_model.specs.declared.graph.Variable.TheVariants.{Local}
 use Rattle.kt_model.specs.NodePaths.{variable_is}
@@ -13,7 +12,7 @@ use Rattle.kt_solve.specs.declared.effect.Transfer.{Transfer}
 use Rattle.kt_solve.specs.declared.effect.Transfer.TheVariants.{Keep, CopyFrom}
 use Rattle.kt_solve.specs.Flow.{Flow, covers, moved, transfer_after, transfer_of}
 use Rattle.kt_init.specs.Transfers.{AddsCopies, AddsEffects, AddsMark, IsOnce, SameFrame, change_in, change_transfer, effect_transfer, marked, side_of, side_transfer, transfer_to, var_at}
-use Rattle.kt_init.proofs.Variables.{apart_is, is_same, same_is}
+use Rattle.kt_init.proofs.Variables.{apart_is, same_is}
 
 transfer_after-push : (xs : List Effect) (e : Effect) (n q : ℕ) (t : Transfer)
     → transfer_after (xs ++ e ∷ []) n q t ≡ cond (covers e n q) (moved e.transfer (q - e.first)) (transfer_after xs n q t)
@@ -156,11 +155,11 @@ pub effects_skip : (vars : List Variable) (node i : ℕ) (es : List FlowEffect) 
     → AddsEffects vars node (take i es) p q → AddsEffects vars node (take (i + 1) es) p q
 effects_skip vars node i es d p q h e a =
     let none : (side : Bool) (x : Variable) (t : Transfer) → effect_transfer side (get_or es i d) x t ≡ t = λ side x t. ap (λ o. change_transfer side o x t) e in record {
-  has = λ v l. a.has v l ∙ sym (side_transfer_more true es i d (var_at vars v) (transfer_of p node v) h ∙ none true (var_at vars v) _);
-  lacks = λ v l. a.lacks v l ∙ sym (side_transfer_more false es i d (var_at vars v) (transfer_of p node (length vars + v)) h ∙ none false (var_at vars v) _);
-  above = a.above;
-  others = a.others;
-}
+      has = λ v l. a.has v l ∙ sym (side_transfer_more true es i d (var_at vars v) (transfer_of p node v) h ∙ none true (var_at vars v) _);
+      lacks = λ v l. a.lacks v l ∙ sym (side_transfer_more false es i d (var_at vars v) (transfer_of p node (length vars + v)) h ∙ none false (var_at vars v) _);
+      above = a.above;
+      others = a.others;
+    }
 
 marked_here : (side b c : Bool) (node : ℕ) (t : Transfer) → marked side b (eqb node node && c) t ≡ marked side b c t
 marked_here side b c node t = ap (λ y. marked side b (y && c) t) (eq-eqb node node refl)
@@ -174,26 +173,26 @@ pub effects_mark : (vars : List Variable) (node i : ℕ) (es : List FlowEffect) 
     → AddsEffects vars node (take i es) p p1 → AddsMark vars node y b p1 p2 → AddsEffects vars node (take (i + 1) es) p p2
 effects_mark vars node i es d y b p p1 p2 h e a m =
     let is : (side : Bool) (x : Variable) (t : Transfer) → effect_transfer side (get_or es i d) x t ≡ marked side b (variable_is y x) t = λ side x t. ap (λ o. change_transfer side o x t) e in record {
-  has = λ v l. m.has node v l ∙ marked_here true b (variable_is y (var_at vars v)) node (transfer_of p1 node v)
-      ∙ ap (λ t. marked true b (variable_is y (var_at vars v)) t) (a.has v l)
-      ∙ sym (side_transfer_more true es i d (var_at vars v) (transfer_of p node v) h ∙ is true (var_at vars v) _);
-  lacks = λ v l. m.lacks node v l ∙ marked_here false b (variable_is y (var_at vars v)) node (transfer_of p1 node (length vars + v))
-      ∙ ap (λ t. marked false b (variable_is y (var_at vars v)) t) (a.lacks v l)
-      ∙ sym (side_transfer_more false es i d (var_at vars v) (transfer_of p node (length vars + v)) h ∙ is false (var_at vars v) _);
-  above = λ q l. m.above node q l ∙ a.above q l;
-  others = λ n q ne. elim (cases_lt q (length vars)) [
-    | inl low ↦ m.has n q low ∙ marked_elsewhere true b (variable_is y (var_at vars q)) node n (transfer_of p1 n q) ne ∙ a.others n q ne
-    | inr mid ↦ elim (cases_lt q (length vars + length vars)) [
-      | inl low ↦
-          (let z : length vars + (q - length vars) ≡ q = omega arith in
-          let l : q - length vars < length vars = omega arith in
-          let e : transfer_of p2 n (length vars + (q - length vars)) ≡ transfer_of p1 n (length vars + (q - length vars)) =
-          m.lacks n (q - length vars) l ∙ marked_elsewhere false b (variable_is y (var_at vars (q - length vars))) node n (transfer_of p1 n (length vars + (q - length vars))) ne in
-          sym (ap (λ k. transfer_of p2 n k) z) ∙ e ∙ ap (λ k. transfer_of p1 n k) z ∙ a.others n q ne)
-      | inr high ↦ m.above n q high ∙ a.others n q ne
-    ]
-  ];
-}
+      has = λ v l. m.has node v l ∙ marked_here true b (variable_is y (var_at vars v)) node (transfer_of p1 node v)
+          ∙ ap (λ t. marked true b (variable_is y (var_at vars v)) t) (a.has v l)
+          ∙ sym (side_transfer_more true es i d (var_at vars v) (transfer_of p node v) h ∙ is true (var_at vars v) _);
+      lacks = λ v l. m.lacks node v l ∙ marked_here false b (variable_is y (var_at vars v)) node (transfer_of p1 node (length vars + v))
+          ∙ ap (λ t. marked false b (variable_is y (var_at vars v)) t) (a.lacks v l)
+          ∙ sym (side_transfer_more false es i d (var_at vars v) (transfer_of p node (length vars + v)) h ∙ is false (var_at vars v) _);
+      above = λ q l. m.above node q l ∙ a.above q l;
+      others = λ n q ne. elim (cases_lt q (length vars)) [
+        | inl low ↦ m.has n q low ∙ marked_elsewhere true b (variable_is y (var_at vars q)) node n (transfer_of p1 n q) ne ∙ a.others n q ne
+        | inr mid ↦ elim (cases_lt q (length vars + length vars)) [
+          | inl low ↦
+              (let z : length vars + (q - length vars) ≡ q = omega arith in
+              let l : q - length vars < length vars = omega arith in
+              let e : transfer_of p2 n (length vars + (q - length vars)) ≡ transfer_of p1 n (length vars + (q - length vars)) =
+              m.lacks n (q - length vars) l ∙ marked_elsewhere false b (variable_is y (var_at vars (q - length vars))) node n (transfer_of p1 n (length vars + (q - length vars))) ne in
+              sym (ap (λ k. transfer_of p2 n k) z) ∙ e ∙ ap (λ k. transfer_of p1 n k) z ∙ a.others n q ne)
+          | inr high ↦ m.above n q high ∙ a.others n q ne
+        ]
+      ];
+    }
 
 pub no_effects : (vars : List Variable) (node : ℕ) (p : Flow) → AddsEffects vars node [] p p
 no_effects vars node p = record {

@@ -5,10 +5,13 @@
 //! `NodePaths` says of all paths, one at a time.
 #![tactic(auto)]
 
+mod graph;
 mod init;
 mod numbers;
 mod problem;
+#[cfg(test)]
+mod tests;
 
-
+pub use graph::is_graph;
 pub use init::{Init, analyse};
 pub use kt_model::status::Status;

@@ -12,7 +12,10 @@ pub(crate) struct Numbers {
 }
 
 /// Numbers the variables by their places.
-pub(crate) fn number_variables(alloc: Global, variables: &[Variable]) -> Result<Numbers, AllocFailed<Variable>>
+pub(crate) fn number_variables(
+    alloc: Global,
+    variables: &[Variable],
+) -> Result<Numbers, AllocFailed<Variable>>
     requires { (i j : ℕ) → i < length variables.now → j < length variables.now → slice_index_or variables.now i (Local 0) ≡ slice_index_or variables.now j (Local 0) → i ≡ j }
     ensures { IfOk result (λ n. n.variables.keys ≡ variables.now) }
 {

@@ -4,15 +4,16 @@ ghost use Rattle.kt_model.specs.NodePaths.{IsEdgeWithin, IsGraph, entry_of};
 ghost use Rattle.kt_init.specs.Transfers.{AddsCopies, AddsEffects, AddsMark, AddsNodes, IsOnce, IsProblemOf, SameFrame, change_in, edge_of, transfer_to as says_transfer};
 
 use crate::numbers::{Numbers, number_variables};
-use kt_model::graph::{EdgeRow, FlowEffect, Graph, NodeRow, Variable};
+use kt_model::graph::{FlowEffect, Graph, Variable};
 use kt_solve::{NoMemory, Problem, Transfer};
 use std::alloc::Global;
 
 /// Takes over the edges of the graph.
-fn add_edges(problem: &mut Problem, edges: &[EdgeRow]) -> Result<(), NoMemory>
-    requires { All (IsEdgeWithin problem.old.nodes) edges.now }
-    ensures { OnOk result (problem.new ≡ record problem.old { edges = problem.old.edges ++ map edge_of edges.now }) }
+fn add_edges(problem: &mut Problem, g: &Graph) -> Result<(), NoMemory>
+    requires { All (IsEdgeWithin problem.old.nodes) g.now.edges }
+    ensures { OnOk result (problem.new ≡ record problem.old { edges = problem.old.edges ++ map edge_of g.now.edges }) }
 {
+    let edges = g.edges.as_slice();
     for edge in edges {
         problem.edge(edge.from, edge.to)?;
     }
@@ -39,7 +40,13 @@ fn transfer_to(set: bool) -> Transfer
 }
 
 /// Notes at a node that a variable is assigned there, or declared.
-fn add_mark(problem: &mut Problem, numbers: &Numbers, node: u32, variable: Variable, assigns: bool) -> Result<(), NoMemory>
+fn add_mark(
+    problem: &mut Problem,
+    numbers: &Numbers,
+    node: u32,
+    variable: Variable,
+    assigns: bool,
+) -> Result<(), NoMemory>
     requires node { node < problem.old.nodes }
     requires once { IsOnce numbers.now.variables.keys }
     requires pairs { 4 * length numbers.now.variables.keys ≡ problem.old.pairs }
@@ -67,7 +74,12 @@ fn change_of(effect: &FlowEffect) -> Option<(Variable, bool)>
 }
 
 /// Notes what the effects of a node do to variables.
-fn add_effects(problem: &mut Problem, numbers: &Numbers, node: u32, effects: &[FlowEffect]) -> Result<(), NoMemory>
+fn add_effects(
+    problem: &mut Problem,
+    numbers: &Numbers,
+    node: u32,
+    effects: &[FlowEffect],
+) -> Result<(), NoMemory>
     requires node { node < problem.old.nodes }
     requires once { IsOnce numbers.now.variables.keys }
     requires pairs { 4 * length numbers.now.variables.keys ≡ problem.old.pairs }
@@ -103,7 +115,12 @@ fn add_nodes(problem: &mut Problem, numbers: &Numbers, g: &Graph) -> Result<(), 
 }
 
 /// The problem whose paths are those of the graph behind a first node.
-pub(crate) fn problem_of(alloc: Global, g: &Graph, nodes: u32, count: u32) -> Result<Problem, NoMemory>
+pub(crate) fn problem_of(
+    alloc: Global,
+    g: &Graph,
+    nodes: u32,
+    count: u32,
+) -> Result<Problem, NoMemory>
     requires graph { IsGraph g.now }
     requires nodes { nodes ≡ length g.now.nodes }
     requires count { count ≡ length g.now.variables }
@@ -114,7 +131,7 @@ pub(crate) fn problem_of(alloc: Global, g: &Graph, nodes: u32, count: u32) -> Re
     let numbers = number_variables(alloc, g.variables.as_slice())?;
     let entry = g.order.as_slice()[0];
     let mut problem = Problem::new(alloc, nodes + 1, 4 * count, nodes)?;
-    add_edges(&mut problem, g.edges.as_slice())?;
+    add_edges(&mut problem, g)?;
     problem.edge(nodes, entry)?;
     problem.effect_range(nodes, count, count, Transfer::Set)?;
     add_copies(&mut problem, nodes, 2 * count)?;

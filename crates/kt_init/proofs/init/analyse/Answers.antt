@@ -1,4 +1,3 @@
-use Rattle.std.proofs.Common.{◌≡◌, length}
 use Rattle.kt_init.proofs.Analysed.{analysed}
 use Rattle.kt_init.proofs.init.analyse.Goals as goal
 

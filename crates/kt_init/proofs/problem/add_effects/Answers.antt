@@ -1,4 +1,4 @@
-use Rattle.std.proofs.Common.{◌≡◌, Some, None, get_or, ap, sym, ◌∙◌}
+use Rattle.std.proofs.Common.{◌≡◌, get_or, ap, sym, ◌∙◌}
 use Rattle.kt_init.specs.Transfers.{change_in}
 use Rattle.kt_init.proofs.Push.{effects_mark, effects_skip, frame_then}
 use Rattle.kt_init.proofs.problem.add_effects.Goals as goal

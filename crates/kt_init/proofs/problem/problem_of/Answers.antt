@@ -1,4 +1,4 @@
-use Rattle.std.proofs.Common.{◌≡◌, get_or, ap, ◌∙◌}
+use Rattle.std.proofs.Common.{◌≡◌, get_or, ap}
 use Rattle.kt_model.specs.NodePaths.{entry_of}
 use Rattle.kt_init.proofs.Built.{built}
 use Rattle.kt_init.proofs.problem.problem_of.Goals as goal
@@ -7,7 +7,7 @@ pub returns : goal.returns
 returns c =
     let q = c.requires in
     let e0 = rw (q.nodes, q.count) at c.in_ok-problem.ensures in
-    let e1 = rw c.as_slice-3.ensures at c.in_ok-add_edges.ensures in
+    let e1 = c.in_ok-add_edges.ensures in
     let entry : get_or c.as_slice-2.result.now 0 0 ≡ entry_of c.args.g.now = ap (λ xs. get_or xs 0 0) c.as_slice-2.ensures in
     let e2 = rw (q.nodes, entry) at c.in_ok-edge.ensures.ok in
     let e3 = rw (q.nodes, q.count) at c.in_ok-effect_range.ensures.ok in

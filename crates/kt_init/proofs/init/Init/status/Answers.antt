@@ -1,4 +1,4 @@
-use Rattle.std.proofs.Common.{◌≡◌, ◌+◌, ◌*◌, true, false, arith, sym, ◌∙◌}
+use Rattle.std.proofs.Common.{◌+◌, ◌*◌, true, false, arith, sym, ◌∙◌}
 use Rattle.kt_solve.specs.Table.{reached_at, holds_at}
 use Rattle.kt_init.proofs.Analysed.{assigned_is, node_within, status_is, status_told, unreached_is}
 use Rattle.kt_init.proofs.init.Init.status.Goals as goal
