@@ -4,5 +4,6 @@ pub mod Trees
 pub mod Graph
 pub mod Paths
 pub mod Names
+pub mod NodePaths
 pub mod Flow
 pub mod Rules

@@ -3,3 +3,5 @@
 #![tactic(auto)]
 
 pub mod finding;
+pub mod graph;
+pub mod status;

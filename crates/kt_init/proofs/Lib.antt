@@ -1,0 +1,5 @@
+pub mod Along
+pub mod Analysed
+pub mod Built
+pub mod Push
+pub mod Variables

@@ -1,0 +1,16 @@
+use Rattle.std.proofs.Common.{◌≡◌, ℕ, ◌<◌, ◌-◌, ◌≤◌, length, take}
+use Rattle.kt_solve.specs.declared.effect.Transfer.TheVariants.{Keep}
+use Rattle.kt_solve.specs.Chains.{effect_at}
+use Rattle.kt_solve.specs.Flow.{outcome, transfer_after}
+use Rattle.kt_solve.specs.Words.{word_bit}
+use Rattle.kt_solve.proofs.apply.apply.Given as goal
+
+abbrev pub invariant-loop-at : goal.invariant-loop-at
+invariant-loop-at l = record {
+  within : l.at ≤ length l.effects;
+  lands : l.at < length l.effects → (effect_at l.effects l.at).node ≡ l.node;
+  bits : (q : ℕ) → word_bit l.out q ≡ outcome (transfer_after (take l.at l.effects) l.node q Keep) (word_bit l.before) q;
+}
+
+abbrev pub decreases-loop-at : goal.decreases-loop-at
+decreases-loop-at l = length l.effects - l.at

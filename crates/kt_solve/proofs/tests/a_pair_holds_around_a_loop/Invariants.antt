@@ -1,0 +1,4 @@
+use Rattle.kt_solve.proofs.tests.a_pair_holds_around_a_loop.Given as goal
+
+abbrev pub ghosts-once : goal.ghosts-once
+ghosts-once g a = record { name = a.blank.name; parts = a.blank.parts }

@@ -1,0 +1,10 @@
+pub mod Chains
+pub mod Flow
+pub mod Marks
+pub mod Orders
+pub mod Problems
+pub mod Search
+pub mod Sweeps
+pub mod Table
+pub mod Walks
+pub mod Words
