@@ -120,15 +120,15 @@ declaration n start is_val ws = and_then (name ws) (λ ident rest. behind_name n
 abbrev pub assignment : ℕ → Ident → List Word → Reading Stmt
 assignment n target ws =
     and_then (expected (next word.Equals) ws) (λ sign rest.
-      and_then (operand (n + 1) rest) (λ e rest.
-        ended (record { number = n; span = from_to target.span.start e.span.end; kind = stmt.Assign target e }) rest))
+    and_then (operand (n + 1) rest) (λ e rest.
+    ended (record { number = n; span = from_to target.span.start e.span.end; kind = stmt.Assign target e }) rest))
 
 abbrev pub print_call : ℕ → ℕ → List Word → Reading Stmt
 print_call n start ws =
     and_then (expected (next word.OpenParenthesis) ws) (λ begin rest.
-      and_then (operand (n + 1) rest) (λ e rest.
-        and_then (expected (next word.CloseParenthesis) rest) (λ close rest.
-          ended (record { number = n; span = from_to start close.span.end; kind = stmt.Println e }) rest)))
+    and_then (operand (n + 1) rest) (λ e rest.
+    and_then (expected (next word.CloseParenthesis) rest) (λ close rest.
+    ended (record { number = n; span = from_to start close.span.end; kind = stmt.Println e }) rest)))
 
 -- the statement that begins with a token of this kind
 abbrev pub begun : ℕ → WordKind → Span → List Word → Reading Stmt
@@ -158,7 +158,7 @@ statements (suc k) n [] = Misfit nowhere
 statements (suc k) n (w ∷ ws) =
     if same_kind w.kind word.CloseBrace then Reads [] ws
     else and_then (statement n (w ∷ ws)) (λ s rest.
-      and_then (statements k (n + trees_in s.kind) rest) (λ more rest. Reads (s ∷ more) rest))
+    and_then (statements k (n + trees_in s.kind) rest) (λ more rest. Reads (s ∷ more) rest))
 
 abbrev pub body : List Word → Reading (List Stmt)
 body ws = and_then (statements (length ws) 1 ws) (λ found rest. and_then (expected (a word.End) rest) (λ end rest. Reads found rest))
@@ -166,10 +166,10 @@ body ws = and_then (statements (length ws) 1 ws) (λ found rest. and_then (expec
 unfoldable pub file : List Word → Reading (List Stmt)
 file ws =
     and_then (expected (a word.Fun) ws) (λ w ws.
-      and_then (expected (a word.Main) ws) (λ w ws.
-        and_then (expected (a word.OpenParenthesis) ws) (λ w ws.
-          and_then (expected (a word.CloseParenthesis) ws) (λ w ws.
-            and_then (expected (a word.OpenBrace) ws) (λ w ws. body ws)))))
+    and_then (expected (a word.Main) ws) (λ w ws.
+    and_then (expected (a word.OpenParenthesis) ws) (λ w ws.
+    and_then (expected (a word.CloseParenthesis) ws) (λ w ws.
+    and_then (expected (a word.OpenBrace) ws) (λ w ws. body ws)))))
 
 -- the statements of `main` in a source, or the place of its first token that does not fit
 abbrev pub reading_of : List ℕ → Reading (List Stmt)

@@ -33,9 +33,14 @@ pub enum StmtKind {
         initialiser: Option<Expr>,
     },
     /// `x = 1`
-    Assign { target: Ident, value: Expr },
+    Assign {
+        target: Ident,
+        value: Expr,
+    },
     /// `println(1)`
-    Println { argument: Expr },
+    Println {
+        argument: Expr,
+    },
 }
 
 /// A statement: its number in preorder from 1, where it stands, and what it is.
