@@ -11,3 +11,4 @@ pub mod Classes
 pub mod Subtypes
 pub mod Members
 pub mod Settled
+pub mod TopNames

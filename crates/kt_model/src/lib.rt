@@ -6,3 +6,4 @@
 pub mod class_table;
 pub mod finding;
 pub mod kinds;
+pub mod top_names;

@@ -2,38 +2,11 @@
 ghost use Rattle.std.specs.Prelude.{◌≡◌, ◌<◌, ◌↔◌, ◌==◌, IsTrue, length, find};
 ghost use Rattle.std.specs.List.{list_any};
 ghost use Rattle.kt_model.specs.Classes.{outlines, written};
-ghost use Rattle.kt_model.specs.Subtypes.{class_of, head_of, common_class, joined, upper_of, HasClass, NamesClass, IsHeadUnder, IsSubtype};
+ghost use Rattle.kt_model.specs.Subtypes.{class_of, common_class, joined, upper_of, HasClass, NamesClass, IsHeadUnder, IsSubtype};
 
 use kt_decl::is_sub;
 use kt_model::class_table::ClassTable;
 use kt_model::kinds::{Head, KtType};
-
-fn class_of_head(head: Head) -> Option<u32>
-    ensures { result ≡ class_of head }
-{
-    match head {
-        Head::Any => Some(0),
-        Head::Nothing => None,
-        Head::Unit => Some(1),
-        Head::Boolean => Some(2),
-        Head::Int => Some(3),
-        Head::Str => Some(4),
-        Head::Class(class) => Some(class),
-    }
-}
-
-fn head_of_class(class: u32) -> Head
-    ensures { result ≡ head_of class }
-{
-    match class {
-        0 => Head::Any,
-        1 => Head::Unit,
-        2 => Head::Boolean,
-        3 => Head::Int,
-        4 => Head::Str,
-        _ => Head::Class(class),
-    }
-}
 
 fn is_head_under(t: &ClassTable, low: Option<u32>, high: Option<u32>) -> bool
     requires { HasClass (written (outlines t.now)) low }
@@ -51,7 +24,7 @@ pub fn subtype(t: &ClassTable, a: &KtType, b: &KtType) -> bool
     requires { NamesClass (written (outlines t.now)) a.now }
     ensures { IsTrue result ↔ IsSubtype (written (outlines t.now)) a.now b.now }
 {
-    let is_under = is_head_under(t, class_of_head(a.head), class_of_head(b.head));
+    let is_under = is_head_under(t, a.head.class(), b.head.class());
     is_under && (b.nullable || !a.nullable)
 }
 
@@ -77,10 +50,10 @@ fn join(t: &ClassTable, a: Head, b: Head) -> Head
     requires second { HasClass (written (outlines t.now)) (class_of b) }
     ensures { result ≡ joined (written (outlines t.now)) a b (class_of a) (class_of b) }
 {
-    match (class_of_head(a), class_of_head(b)) {
+    match (a.class(), b.class()) {
         (None, _) => b,
         (Some(_), None) => a,
-        (Some(low), Some(high)) => head_of_class(first_common(t, low, high)),
+        (Some(low), Some(high)) => Head::of_class(first_common(t, low, high)),
     }
 }
 
