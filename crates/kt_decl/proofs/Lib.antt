@@ -1,0 +1,4 @@
+pub mod ListSteps
+pub mod MarkLemmas
+pub mod SearchLemmas
+pub mod RankLemmas

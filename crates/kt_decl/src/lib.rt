@@ -2,6 +2,11 @@
 //! and the rules on declarations.
 #![tactic(auto)]
 
+mod hierarchy;
 mod inheritance;
+mod sites;
+mod words;
 
 pub use inheritance::{implementation, is_sub, member};
+pub use sites::at_file;
+pub use hierarchy::{is_ranked, search_all};

@@ -12,3 +12,5 @@ pub mod Subtypes
 pub mod Members
 pub mod Settled
 pub mod TopNames
+pub mod Sites
+pub mod DeclarationRules

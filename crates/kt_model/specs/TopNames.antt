@@ -16,15 +16,16 @@ use Rattle.kt_model.specs.Subtypes.{head_of}
 abbrev pub built_in_classes : ℕ
 built_in_classes = 13
 
--- the names of a file's classes and functions, and the number of the name `Nothing`
+-- the names of a file's classes and functions, and the numbers of the names `Nothing` and `main`
 pub record Tops : Type 0 where
   pub class_names : List ℕ
   pub function_names : List ℕ
   pub nothing : ℕ
+  pub main : ℕ
 
 abbrev pub top_names : File → Tops
 top_names file =
-    record { class_names = map (λ c. c.name.name) file.classes; function_names = map (λ f. f.name.name) file.functions; nothing = place_of file.names (codes "Nothing") }
+    record { class_names = map (λ c. c.name.name) file.classes; function_names = map (λ f. f.name.name) file.functions; nothing = place_of file.names (codes "Nothing"); main = place_of file.names (codes "main") }
 
 abbrev pub is_function_name : Tops → ℕ → Bool
 is_function_name tops name = list_any (λ f. f == name) tops.function_names

@@ -16,6 +16,7 @@ pub struct TopNames {
     classes: Vec<u32>,
     functions: Vec<u32>,
     nothing: u32,
+    main: u32,
 }
 
 impl Model for TopNames {
@@ -24,7 +25,7 @@ impl Model for TopNames {
 
     ghost Value = { Tops };
 
-    ghost view = { λ t. record { class_names = t.classes.items; function_names = t.functions.items; nothing = t.nothing } };
+    ghost view = { λ t. record { class_names = t.classes.items; function_names = t.functions.items; nothing = t.nothing; main = t.main } };
 
     ghost invariant = { λ t. built_in_classes + length t.classes.items < 2 ^ 32 };
 }
@@ -83,7 +84,15 @@ impl TopNames {
             classes: class_names(alloc, file.classes.as_slice())?,
             functions: function_names(alloc, file.functions.as_slice())?,
             nothing: number_of(&file.names, "Nothing"),
+            main: number_of(&file.names, "main"),
         })
+    }
+
+    /// The number of the name `main`, or the number of names where there is none.
+    pub fn main(&self) -> u32
+        ensures { result ≡ self.now.main }
+    {
+        self.main
     }
 
     /// Whether a function of the file has the name.
