@@ -1,6 +1,9 @@
 -- One more item, at a step of a loop.
-use Rattle.std.proofs.Common.{◌≡◌, ◌<◌, ◌+◌, ℕ, List, [], ◌∷◌, ◌++◌, Option, Some, None, length, get_or, take, refl, sym, ap, ◌∙◌, append_assoc, append-nil}
+use Rattle.std.proofs.Common.{◌≡◌, ◌<◌, ◌+◌, ℕ, List, [], ◌∷◌, ◌++◌, Option, Some, None, length, get_or, take, refl, sym, ap, subst, inl, inr, suc, zero, arith, ◌∙◌, ◌≤◌, append_assoc, slice_get}
 use Rattle.std.specs.List.{filter_map, cons_option}
+use Rattle.std.proofs.lemmas.Bool.{cases_lt}
+use Rattle.std.proofs.Math.ListN.{get_or-append}
+use Rattle.std.proofs.Math.Seq.{get_or-append_seam}
 use Rattle.std.proofs.lemmas.List.{take_more}
 use Rattle.std.proofs.lemmas.List.Elements.{filter_map-append}
 
@@ -14,3 +17,32 @@ push_step h xs i x start words new o within is gives so_far grown =
     let more : filter_map h (take (i + 1) xs) ≡ filter_map h (take i xs) ++ cons_option (h x) [] = rw (take_more xs i x within, ← is) (filter_map-append h (take i xs) (x ∷ [])) in
     let front : words ++ cons_option o [] ≡ (start ++ filter_map h (take i xs)) ++ cons_option (h x) [] = (λ k. so_far k ++ cons_option (gives k) []) in
     grown ∙ front ∙ append_assoc start (filter_map h (take i xs)) (cons_option (h x) []) ∙ ap (λ z. start ++ z) (sym more)
+
+module _ {A : Type 0} where
+  pub get_left : (xs ys : List A) (k : ℕ) → k < length xs → slice_get (xs ++ ys) k ≡ slice_get xs k
+  get_left [] ys k b = absurd (omega arith)
+  get_left (x ∷ xs) ys zero b = refl
+  get_left (x ∷ xs) ys (suc k) b = get_left xs ys k (omega arith)
+
+  pub get_last : (xs : List A) (x : A) → slice_get (xs ++ x ∷ []) (length xs) ≡ Some x
+  get_last [] x = refl
+  get_last (y ∷ xs) x = get_last xs x
+
+  -- what holds of each item by its place holds with one more
+  pub get_more : (P : ℕ → Option A → Type 0) (xs new : List A) (x : A) (n : ℕ) → n ≡ length xs → new ≡ xs ++ x ∷ [] → ((k : ℕ) → k < n → P k (slice_get xs k)) → P n (Some x) → (k : ℕ) → k < n + 1 → P k (slice_get new k)
+  get_more P xs new x n len grown old last k b =
+      subst (λ z. P k (slice_get z k)) (sym grown) (elim (cases_lt k n) [ inl before ↦ subst (P k) (sym (get_left xs (x ∷ []) k (omega arith))) (old k before) | inr from ↦ at from ])
+    where
+      at : n ≤ k → P k (slice_get (xs ++ x ∷ []) k)
+      at from =
+          let same : k ≡ n = omega arith in
+          subst (λ z. P z (slice_get (xs ++ x ∷ []) z)) (sym same) (subst (P n) (sym (ap (slice_get (xs ++ x ∷ [])) len ∙ get_last xs x)) last)
+
+pub index_more : (P : ℕ → ℕ → Type 0) (xs new : List ℕ) (x n : ℕ) → n ≡ length xs → new ≡ xs ++ x ∷ [] → ((k : ℕ) → k < n → P k (get_or xs k 0)) → P n x → (k : ℕ) → k < n + 1 → P k (get_or new k 0)
+index_more P xs new x n len grown old last k b =
+    subst (λ z. P k (get_or z k 0)) (sym grown) (elim (cases_lt k n) [ inl before ↦ subst (P k) (sym (get_or-append xs (x ∷ []) 0 k (omega arith))) (old k before) | inr from ↦ at from ])
+  where
+    at : n ≤ k → P k (get_or (xs ++ x ∷ []) k 0)
+    at from =
+        let same : k ≡ n = omega arith in
+        subst (λ z. P z (get_or (xs ++ x ∷ []) z 0)) (sym same) (subst (P n) (sym (ap (λ z. get_or (xs ++ x ∷ []) z 0) len ∙ get_or-append_seam xs x [] 0)) last)
