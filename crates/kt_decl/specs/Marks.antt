@@ -1,5 +1,12 @@
 -- A list of numbers, and marks that tell its members.
-use Rattle.std.specs.Prelude.{◌≡◌, ◌<◌, ◌⊎◌, ◌↔◌, ◌++◌, ℕ, Bool, true, List, [], ◌∷◌, Some, slice_get, Contains, length, ◌+◌, count_by, not, slice_index}
+use Rattle.std.specs.Prelude.{◌≡◌, ◌<◌, ◌⊎◌, ◌↔◌, ◌++◌, ℕ, Bool, true, false, List, [], ◌∷◌, Some, slice_get, Contains, length, ◌+◌, count_by, not, slice_index}
+use Rattle.kt_tree.specs.declared.ast.declaration.File.{File}
+use Rattle.kt_tree.specs.declared.ast.declaration.ClassDecl.{ClassDecl}
+use Rattle.kt_model.specs.declared.class_table.ClassKind.{ClassKind}
+use Rattle.kt_model.specs.declared.finding.Finding.{Finding}
+use Rattle.kt_model.specs.declared.finding.Rule.TheVariants.{SupertypeCycle}
+use Rattle.kt_model.specs.TopNames.{Tops}
+use Rattle.kt_model.specs.DeclarationRules.{supertype_misfits, IsOfClass}
 use Rattle.kt_model.specs.Classes.{Classes, supers_of, IsProperlyAbove}
 
 abbrev pub IsMarked : List Bool → ℕ → Type 0
@@ -32,3 +39,12 @@ CountsAll classes counts = (c : ℕ) → c < length classes → CountsAbove clas
 -- which classes are properly above themselves
 abbrev pub MarksCycles : Classes → List Bool → Type 0
 MarksCycles classes cycles = (c : ℕ) → c < length classes → IsMarked cycles c ↔ IsProperlyAbove classes c c
+
+-- what is violated at a class, its being on a cycle given
+abbrev pub class_findings : Tops → List ClassKind → Bool → ClassDecl → List Finding
+class_findings tops kinds true c = record { rule = SupertypeCycle; span = c.name.span } ∷ []
+class_findings tops kinds false c = supertype_misfits tops kinds c
+
+-- what is violated at one of the first n classes
+abbrev pub IsOfClassBefore : File → ℕ → Finding → Type 0
+IsOfClassBefore file n f = (w : IsOfClass file f) × (w.place < n)

@@ -5,8 +5,10 @@
 mod hierarchy;
 mod inheritance;
 mod sites;
+mod supertypes;
 mod words;
 
 pub use inheritance::{implementation, is_sub, member};
 pub use sites::at_file;
+pub use supertypes::{add_class_findings, all_supers, class_kinds};
 pub use hierarchy::{is_ranked, search_all};

@@ -3,7 +3,7 @@
 -- From the Kotlin specification, "Declarations", "Inheritance" and "Scopes and identifiers"; that `main` is a function without parameters is this
 -- project's own. Each rule is a condition on one site, or on one class. The code walks the declarations once.
 use Rattle.std.specs.Prelude.{◌≡◌, ◌==◌, ◌&&◌, ◌||◌, ◌⊎◌, ℕ, Bool, true, false, not, List, [], ◌∷◌, ◌++◌, Contains, nat_lt, if◌then◌else◌, ◌+◌, map, Option, Some, None, slice_get, is_some}
-use Rattle.std.specs.List.{flat_map, filter_map, list_any}
+use Rattle.std.specs.List.{flat_map, filter_map, list_any, cons_option}
 use Rattle.std.specs.Option.{is_none}
 use Rattle.kt_tree.specs.declared.token.Span.{Span}
 use Rattle.kt_tree.specs.declared.ast.part.Ident.{Ident}
@@ -168,9 +168,12 @@ abbrev pub supers_named : Tops → List Supertype → List ℕ
 supers_named tops ss = filter_map (λ s. class_named tops s.name.name) ss
 
 -- `Exception` is under `Throwable`, `RuntimeException` under `Exception`, the five others under `RuntimeException`.
+abbrev pub built_in_above : List (Option ℕ)
+built_in_above =
+    None ∷ None ∷ None ∷ None ∷ None ∷ None ∷ Some 5 ∷ Some 6 ∷ Some 7 ∷ Some 7 ∷ Some 7 ∷ Some 7 ∷ Some 7 ∷ []
+
 abbrev pub built_in_supers : Classes
-built_in_supers =
-    [] ∷ [] ∷ [] ∷ [] ∷ [] ∷ [] ∷ (5 ∷ []) ∷ (6 ∷ []) ∷ (7 ∷ []) ∷ (7 ∷ []) ∷ (7 ∷ []) ∷ (7 ∷ []) ∷ (7 ∷ []) ∷ []
+built_in_supers = map (λ above. cons_option above []) built_in_above
 
 -- for each class of a file, the built-in ones first, its written supertypes
 unfoldable pub classes_of : File → Classes
