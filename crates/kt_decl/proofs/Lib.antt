@@ -2,3 +2,4 @@ pub mod ListSteps
 pub mod MarkLemmas
 pub mod SearchLemmas
 pub mod RankLemmas
+pub mod ClassSteps

@@ -2,13 +2,14 @@
 //! and the rules on declarations.
 #![tactic(auto)]
 
+mod findings;
 mod hierarchy;
 mod inheritance;
 mod sites;
 mod supertypes;
 mod words;
 
-pub use inheritance::{implementation, is_sub, member};
-pub use sites::at_file;
-pub use supertypes::{add_class_findings, all_supers, class_kinds};
+pub use findings::declaration_findings;
 pub use hierarchy::{is_ranked, search_all};
+pub use inheritance::{implementation, is_sub, member};
+pub use supertypes::all_supers;

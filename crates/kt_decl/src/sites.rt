@@ -301,7 +301,7 @@ fn at_file_functions(tops: &TopNames, functions: &[FunctionDecl], out: &mut Vec<
 
 /// Tries the rules on declarations at each site of the file.
 #[tactic(auto, unfolding(kt_model::specs::Sites::file_sites))]
-pub fn at_file(alloc: Global, tops: &TopNames, file: &File, out: &mut Vec<Finding>) -> Result<(), NoMemory>
+pub(crate) fn at_file(alloc: Global, tops: &TopNames, file: &File, out: &mut Vec<Finding>) -> Result<(), NoMemory>
     ensures { OnOk result (out.new.items ≡ out.old.items ++ flat_map (declaration_rules tops.now) (file_sites file.now)) }
 {
     let words = words_of_top(alloc, file)?;

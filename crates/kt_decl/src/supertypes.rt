@@ -66,7 +66,7 @@ const BUILT_IN_KINDS: [ClassKind; 13] = [
 ];
 
 /// For each class its kind.
-pub fn class_kinds(alloc: Global, file: &File) -> Result<Vec<ClassKind>, NoMemory>
+pub(crate) fn class_kinds(alloc: Global, file: &File) -> Result<Vec<ClassKind>, NoMemory>
     ensures { IfOk result (λ kinds. kinds.items ≡ kinds_of file.now) }
 {
     let mut kinds = Vec::from_array(alloc, BUILT_IN_KINDS)?;
@@ -270,7 +270,7 @@ fn at_class_hierarchy(
 }
 
 /// Puts in what is violated at the classes of a file.
-pub fn add_class_findings(
+pub(crate) fn add_class_findings(
     alloc: Global,
     tops: &TopNames,
     kinds: &[ClassKind],
