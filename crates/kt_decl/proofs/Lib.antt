@@ -3,3 +3,4 @@ pub mod MarkLemmas
 pub mod SearchLemmas
 pub mod RankLemmas
 pub mod ClassSteps
+pub mod AboveLemmas

@@ -46,3 +46,10 @@ index_more P xs new x n len grown old last k b =
     at from =
         let same : k ≡ n = omega arith in
         subst (λ z. P z (get_or (xs ++ x ∷ []) z 0)) (sym same) (subst (P n) (sym (ap (λ z. get_or (xs ++ x ∷ []) z 0) len ∙ get_or-append_seam xs x [] 0)) last)
+
+-- a loop has come to the end
+pub take_end : {A : Type 0} (xs : List A) (i : ℕ) → length xs ≤ i → take i xs ≡ xs
+take_end [] zero b = refl
+take_end [] (suc i) b = refl
+take_end (x ∷ xs) zero b = absurd (omega arith)
+take_end (x ∷ xs) (suc i) b = ap (λ z. x ∷ z) (take_end xs i (omega arith))

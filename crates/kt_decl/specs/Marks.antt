@@ -1,5 +1,7 @@
 -- A list of numbers, and marks that tell its members.
 use Rattle.std.specs.Prelude.{◌≡◌, ◌<◌, ◌⊎◌, ◌↔◌, ◌++◌, ℕ, Bool, true, false, List, [], ◌∷◌, Some, slice_get, Contains, length, ◌+◌, count_by, not, slice_index}
+use Rattle.std.specs.Prelude.{◌==◌, if◌then◌else◌}
+use Rattle.std.specs.List.{list_any}
 use Rattle.kt_tree.specs.declared.ast.declaration.File.{File}
 use Rattle.kt_tree.specs.declared.ast.declaration.ClassDecl.{ClassDecl}
 use Rattle.kt_model.specs.declared.class_table.ClassKind.{ClassKind}
@@ -7,7 +9,7 @@ use Rattle.kt_model.specs.declared.finding.Finding.{Finding}
 use Rattle.kt_model.specs.declared.finding.Rule.TheVariants.{SupertypeCycle}
 use Rattle.kt_model.specs.TopNames.{Tops}
 use Rattle.kt_model.specs.DeclarationRules.{supertype_misfits, IsOfClass}
-use Rattle.kt_model.specs.Classes.{Classes, supers_of, IsProperlyAbove}
+use Rattle.kt_model.specs.Classes.{Classes, any, supers_of, supers, IsProperlyAbove}
 
 abbrev pub IsMarked : List Bool → ℕ → Type 0
 IsMarked marks k = slice_get marks k ≡ Some true
@@ -48,3 +50,19 @@ class_findings tops kinds false c = supertype_misfits tops kinds c
 -- what is violated at one of the first n classes
 abbrev pub IsOfClassBefore : File → ℕ → Finding → Type 0
 IsOfClassBefore file n f = (w : IsOfClass file f) × (w.place < n)
+
+-- a class behind those found, where it is neither `Any` nor one of them
+abbrev pub add_once : List ℕ → ℕ → List ℕ
+add_once found c = if list_any (λ y. y == c) (any ∷ found) then found else found ++ c ∷ []
+
+-- the count falls along the written supertypes
+abbrev pub FallsAlong : Classes → List ℕ → Type 0
+FallsAlong classes counts = (c s : ℕ) → Contains (supers_of classes c) s → slice_index counts s < slice_index counts c
+
+-- the classes with fewer classes above them than n have theirs
+abbrev pub IsFilled : Classes → List ℕ → ℕ → Classes → Type 0
+IsFilled classes counts n aboves = (c : ℕ) → c < length classes → slice_index counts c < n → supers_of aboves c ≡ supers classes c
+
+-- those with n, as far as i, have theirs too
+abbrev pub IsFilledTo : Classes → List ℕ → ℕ → ℕ → Classes → Type 0
+IsFilledTo classes counts n i aboves = (c : ℕ) → c < i → slice_index counts c ≡ n → supers_of aboves c ≡ supers classes c

@@ -1,7 +1,7 @@
 //! What is above each class, by a search that goes up breadth first.
-ghost use Rattle.std.specs.Prelude.{◌^◌, ◌≡◌, ◌<◌, ◌+◌, ◌⊎◌, All, ◌↔◌, ◌++◌, ◌∷◌, [], ℕ, IfOk, OnOk, OnErr, Contains, length, vec_len, count_by, not, replicate, false, slice_index};
+ghost use Rattle.std.specs.Prelude.{◌^◌, ◌≡◌, ◌<◌, ◌≤◌, ◌+◌, ◌⊎◌, All, ◌↔◌, ◌++◌, ◌∷◌, [], ℕ, IfOk, OnOk, OnErr, Contains, length, vec_len, count_by, not, replicate, false, slice_index};
 ghost use Rattle.kt_model.specs.Classes.{supers_of, IsProperlyAbove, IsRanked};
-ghost use Rattle.kt_decl.specs.Marks.{MarksMembers, AddsNumbers, CountsAbove, CountsAll, HasKnownSupers, MarksCycles};
+ghost use Rattle.kt_decl.specs.Marks.{MarksMembers, AddsNumbers, CountsAbove, CountsAll, HasKnownSupers, MarksCycles, FallsAlong};
 
 use kt_model::class_table::Numbers;
 use kt_tree::NoMemory;
@@ -9,9 +9,9 @@ use std::alloc::Global;
 
 /// The classes that a search has found, and a mark for each.
 #[derive(Drop)]
-struct Search {
-    found: Vec<u32>,
-    marks: Vec<bool>,
+pub(crate) struct Search {
+    pub found: Vec<u32>,
+    pub marks: Vec<bool>,
 }
 
 /// Finds a class.
@@ -46,14 +46,15 @@ fn find_all(search: &mut Search, classes: &[u32]) -> Result<(), NoMemory>
 }
 
 /// The written supertypes of a class.
-fn supers_at(classes: &[Numbers], class: u32) -> &[u32]
+pub(crate) fn supers_at(classes: &[Numbers], class: u32) -> &[u32]
     requires { class < length classes.now }
     ensures { result.now ≡ supers_of classes.now class }
 {
     classes[class as usize].as_slice()
 }
 
-fn no_marks(alloc: Global, len: usize) -> Result<Vec<bool>, NoMemory>
+/// Marks, all unset.
+pub(crate) fn no_marks(alloc: Global, len: usize) -> Result<Vec<bool>, NoMemory>
     ensures none { IfOk result (λ marks. marks.items ≡ replicate len false) }
     ensures len { IfOk result (λ marks. vec_len marks ≡ len) }
     ensures left { IfOk result (λ marks. count_by not marks.items ≡ len) }
@@ -116,11 +117,14 @@ pub fn search_all(alloc: Global, classes: &[Numbers]) -> Result<Hierarchy, NoMem
 }
 
 /// The counts rank the classes, where none is above itself.
-pub fn is_ranked(classes: &[Numbers], ranks: &[usize])
+pub fn is_ranked(classes: &[Numbers], counts: &[usize])
     requires some { 0 < length classes.now }
     requires closed { HasKnownSupers classes.now }
-    requires len { length ranks.now ≡ length classes.now }
-    requires counts { CountsAll classes.now ranks.now }
+    requires len { length counts.now ≡ length classes.now }
+    requires counts { CountsAll classes.now counts.now }
     requires free { (c : ℕ) → IsProperlyAbove classes.now c c → ⊥ }
-    ensures { IsRanked classes.now }
-{}
+    ensures ranked { IsRanked classes.now }
+    ensures falls { FallsAlong classes.now counts.now }
+    ensures below { All (λ n. n ≤ length classes.now) counts.now }
+{
+}

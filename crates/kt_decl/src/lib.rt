@@ -2,6 +2,7 @@
 //! and the rules on declarations.
 #![tactic(auto)]
 
+mod aboves;
 mod findings;
 mod hierarchy;
 mod inheritance;
@@ -9,6 +10,7 @@ mod sites;
 mod supertypes;
 mod words;
 
+pub use aboves::all_above;
 pub use findings::declaration_findings;
 pub use hierarchy::{is_ranked, search_all};
 pub use inheritance::{implementation, is_sub, member};
