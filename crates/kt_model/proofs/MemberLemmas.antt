@@ -8,7 +8,7 @@ use Rattle.kt_model.specs.declared.class_table.Member.{Member}
 use Rattle.kt_model.specs.declared.class_table.MemberRow.{MemberRow}
 use Rattle.kt_model.specs.declared.class_table.Settled.{Settled}
 use Rattle.kt_model.specs.Classes.{Outlines, any, written, supers, climbed, listed, each_once}
-use Rattle.kt_model.specs.Members.{members_of, place_of, own, proper, candidates, is_hidden, member_of, implementation_of, names_above, settled_at, settled_of}
+use Rattle.kt_model.specs.Members.{members_of, place_of, own, candidates, candidate_in, is_hidden, member_of, implementation_of, names_above, settled_at, settled_of}
 use Rattle.kt_model.proofs.ListLemmas.{Has, has_of_any, any_of_has, has_flat, has_unfiltered, contains_has, has_contains}
 use Rattle.kt_model.proofs.ClassLemmas.{has_once, has_of_once, has_listed, climbed_first}
 
@@ -42,11 +42,11 @@ module _ (os : Outlines) (c name : ℕ) (absent : Has (names_above os c) name �
       step None e = rw e refl
       step (Some i) e = absurd (absent (has_flat (λ d. map (λ m. m.name) (members_of os d)) (supers (written os) c) d name h (placed (members_of os d) name i e)))
 
-  none_in : (ds : List ℕ) → ((d : ℕ) → Has ds d → Has (supers (written os) c) d) → filter_map (λ d. cond (is_hidden os c name d) None (own os d name)) ds ≡ []
+  none_in : (ds : List ℕ) → ((d : ℕ) → Has ds d → Has (supers (written os) c) d) → filter_map (candidate_in os c name) ds ≡ []
   unfolding Has
   none_in [] within = refl
   none_in (d ∷ ds) within =
-      rw (none_own d (within d (inl refl))) (step (is_hidden os c name d) (filter_map (λ d. cond (is_hidden os c name d) None (own os d name)) ds) (none_in ds (λ e h. within e (inr h))))
+      rw (none_own d (within d (inl refl))) (step (d == c || is_hidden os c name d) (filter_map (candidate_in os c name) ds) (none_in ds (λ e h. within e (inr h))))
     where
       step : (b : Bool) (rest : List Member) → rest ≡ [] → cons_option (cond b None None) rest ≡ []
       step true rest e = e
@@ -54,7 +54,7 @@ module _ (os : Outlines) (c name : ℕ) (absent : Has (names_above os c) name �
 
   none_inherited : candidates os c name ≡ []
   unfolding candidates
-  none_inherited = none_in (proper os c) (λ d h. has_unfiltered (λ d. not (d == c)) (supers (written os) c) d h)
+  none_inherited = none_in (supers (written os) c) (λ d h. h)
 
   pub none_there : member_of os c name ≡ None
   unfolding member_of

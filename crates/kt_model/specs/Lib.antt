@@ -14,3 +14,4 @@ pub mod Settled
 pub mod TopNames
 pub mod Sites
 pub mod DeclarationRules
+pub mod Outlines

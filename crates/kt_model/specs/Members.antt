@@ -2,7 +2,7 @@
 --
 -- From the Kotlin specification, "Inheritance" and "Overriding". What happens where several candidates meet is this project's own reading of
 -- real Kotlin's behaviour. The code marks what is hidden, and keeps what each class has.
-use Rattle.std.specs.Prelude.{◌==◌, ◌&&◌, ◌||◌, ℕ, Bool, true, false, not, List, [], ◌∷◌, ◌++◌, map, Option, Some, None, filter, find, position, slice_get, count_by, nat_le, unwrap_or, option_and_then, if◌then◌else◌, is_some}
+use Rattle.std.specs.Prelude.{◌==◌, ◌&&◌, ◌||◌, ℕ, Bool, true, false, not, List, [], ◌∷◌, ◌++◌, map, Option, Some, None, find, position, slice_get, count_by, nat_le, unwrap_or, option_and_then, if◌then◌else◌, is_some}
 use Rattle.std.specs.List.{list_any, list_all, filter_map, flat_map}
 use Rattle.std.specs.Option.{option_map}
 use Rattle.kt_model.specs.declared.class_table.ClassKind.{ClassKind}
@@ -31,19 +31,24 @@ own os c name = option_map (λ place. record { class = c; place = place }) (plac
 abbrev pub row_of : Outlines → Member → Option MemberRow
 row_of os m = slice_get (members_of os m.class) m.place
 
--- the proper supertypes, in the order of `supers`
-abbrev pub proper : Outlines → ℕ → List ℕ
-proper os c = filter (λ d. not (d == c)) (supers (written os) c)
+abbrev pub declares : Outlines → ℕ → ℕ → Bool
+declares os name c = is_some (own os c name)
 
--- another proper supertype of c is under d and declares the name
+-- Another proper supertype of c declares the name, and is under d.
+abbrev pub is_hidden_by : Outlines → ℕ → ℕ → ℕ → ℕ → Bool
+is_hidden_by os c name d e =
+    not (e == c) && declares os name e && not (e == d) && is_under (written os) e d
+
 abbrev pub is_hidden : Outlines → ℕ → ℕ → ℕ → Bool
-is_hidden os c name d =
-    list_any (λ e. not (e == d) && is_under (written os) e d && is_some (own os e name)) (proper os c)
+is_hidden os c name d = list_any (is_hidden_by os c name d) (supers (written os) c)
 
--- the members of that name in proper supertypes, less those that are hidden
+-- the member that a proper supertype d of c declares, unless it is hidden
+abbrev pub candidate_in : Outlines → ℕ → ℕ → ℕ → Option Member
+candidate_in os c name d = if d == c || is_hidden os c name d then None else own os d name
+
+-- the candidates of a class for a name, in the order of `supers`
 unfoldable pub candidates : Outlines → ℕ → ℕ → List Member
-candidates os c name =
-    filter_map (λ d. if is_hidden os c name d then None else own os d name) (proper os c)
+candidates os c name = filter_map (candidate_in os c name) (supers (written os) c)
 
 abbrev pub is_abstract : MemberKind → Bool
 is_abstract AbstractFunction = true
@@ -108,35 +113,56 @@ is_interface os c = by (option_map (λ o. o.kind) (slice_get os c))
     by (Some Interface) = true
     by _ = false
 
--- what a candidate is: its class and its row
-abbrev pub Candidate : Type 0
-Candidate = Member × MemberRow
+-- ---- candidates that meet
 
-abbrev pub with_rows : Outlines → List Member → List Candidate
-with_rows os ms = filter_map (λ m. option_map (λ row. (m, row)) (row_of os m)) ms
+abbrev pub row_test : (MemberRow → Bool) → Option MemberRow → Bool
+row_test p None = false
+row_test p (Some row) = p row
 
--- none is private; at most one isn't abstract, and that one stands in a class; kinds and parameter
--- types are equal
-abbrev pub go_together : Outlines → List Candidate → Bool
-go_together os cs =
-    list_all (λ c. not c.1.is_private) cs && nat_le (count_by (λ c. not (is_abstract c.1.kind)) cs) 1 && list_all (λ c. is_abstract c.1.kind || not (is_interface os c.0.class)) cs && list_all (λ c. list_all (λ d. same_bool (is_function c.1.kind) (is_function d.1.kind) && same_params c.1.params d.1.params) cs) cs
+abbrev pub rows_test : (MemberRow → MemberRow → Bool) → Option MemberRow → Option MemberRow → Bool
+rows_test p (Some a) (Some b) = p a b
+rows_test p _ _ = false
 
-abbrev pub have_one_type : List Candidate → Bool
-have_one_type cs = list_all (λ c. list_all (λ d. result_same c.1.result d.1.result) cs) cs
+abbrev pub is_private_at : Outlines → Member → Bool
+is_private_at os m = row_test (λ row. row.is_private) (row_of os m)
+
+abbrev pub is_abstract_at : Outlines → Member → Bool
+is_abstract_at os m = row_test (λ row. is_abstract row.kind) (row_of os m)
+
+abbrev pub is_var_at : Outlines → Member → Bool
+is_var_at os m = row_test (λ row. row.is_var) (row_of os m)
+
+-- their kinds and their parameter types are equal
+abbrev pub have_one_shape : MemberRow → MemberRow → Bool
+have_one_shape a b = same_bool (is_function a.kind) (is_function b.kind) && same_params a.params b.params
+
+abbrev pub agree_at : Outlines → Member → Member → Bool
+agree_at os m n = rows_test have_one_shape (row_of os m) (row_of os n)
+
+abbrev pub fits_under : Outlines → Member → Member → Bool
+fits_under os m n = rows_test (λ a b. result_fits os a.result b.result) (row_of os m) (row_of os n)
+
+abbrev pub has_type_of : Outlines → Member → Member → Bool
+has_type_of os m n = rows_test (λ a b. result_same a.result b.result) (row_of os m) (row_of os n)
+
+-- None is private; at most one isn't abstract, and that one stands in a class; kinds and parameter types are equal.
+abbrev pub go_together : Outlines → List Member → Bool
+go_together os ms =
+    not (list_any (is_private_at os) ms) && nat_le (count_by (λ m. not (is_abstract_at os m)) ms) 1 && list_all (λ m. is_abstract_at os m || not (is_interface os m.class)) ms && list_all (λ m. list_all (agree_at os m) ms) ms
 
 -- Its result type is a subtype of all the others'; if one isn't abstract, it is that one; if a `var` is among them, it is a `var` and all types are equal.
-abbrev pub is_fitting : Outlines → List Candidate → Candidate → Bool
-is_fitting os cs c =
-    list_all (λ d. result_fits os c.1.result d.1.result) cs && (not (is_abstract c.1.kind) || list_all (λ d. is_abstract d.1.kind) cs) && (not (list_any (λ d. d.1.is_var) cs) || (c.1.is_var && have_one_type cs))
+abbrev pub is_fitting : Outlines → List Member → Member → Bool
+is_fitting os ms m =
+    list_all (fits_under os m) ms && (not (is_abstract_at os m) || list_all (is_abstract_at os) ms) && (not (list_any (is_var_at os) ms) || (is_var_at os m && list_all (λ n. list_all (has_type_of os n) ms) ms))
 
 -- the fitting one, the first in the order of `supers`, where the candidates fit
-abbrev pub fitting : Outlines → List Candidate → Option Member
-fitting os cs = if go_together os cs then option_map (λ c. c.0) (find (is_fitting os cs) cs) else None
+abbrev pub fitting : Outlines → List Member → Option Member
+fitting os ms = if go_together os ms then find (is_fitting os ms) ms else None
 
 abbrev pub inherited : Outlines → List Member → Option Member
 inherited os [] = None
 inherited os (m ∷ []) = Some m
-inherited os ms = fitting os (with_rows os ms)
+inherited os ms = fitting os ms
 
 -- the class's own member, else the one candidate, else the fitting one
 unfoldable pub member_of : Outlines → ℕ → ℕ → Option Member
