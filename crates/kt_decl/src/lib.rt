@@ -6,12 +6,15 @@ mod aboves;
 mod findings;
 mod hierarchy;
 mod inheritance;
+mod outlines;
+
 mod sites;
 mod supertypes;
 mod words;
 
 pub use aboves::all_above;
 pub use findings::declaration_findings;
+pub use outlines::{Around, read_off, result_types};
 pub use hierarchy::{is_ranked, search_all};
 pub use inheritance::{implementation, is_sub, member};
 pub use supertypes::all_supers;

@@ -254,7 +254,8 @@ fn is_unit_head(head: Option<Head>) -> bool
     }
 }
 
-fn body_gives_unit(body: &Option<FunctionBody>) -> bool
+/// Whether a function without a written result gives `Unit`.
+pub(crate) fn body_gives_unit(body: &Option<FunctionBody>) -> bool
     ensures { result ≡ gives_unit body.now }
 {
     match body {

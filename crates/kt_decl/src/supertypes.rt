@@ -49,7 +49,7 @@ pub(crate) fn kind_of_class(c: &ClassDecl) -> ClassKind
     }
 }
 
-const BUILT_IN_KINDS: [ClassKind; 13] = [
+pub(crate) const BUILT_IN_KINDS: [ClassKind; 13] = [
     ClassKind::Open,
     ClassKind::Final,
     ClassKind::Final,
@@ -86,7 +86,7 @@ fn push_class(out: &mut Numbers, class: Option<u32>) -> Result<(), NoMemory>
 }
 
 /// The classes that the supertypes name, in order.
-fn named_supers(
+pub(crate) fn named_supers(
     alloc: Global,
     tops: &TopNames,
     supertypes: &[Supertype],
@@ -100,7 +100,7 @@ fn named_supers(
     Ok(supers)
 }
 
-const BUILT_IN_ABOVE: [Option<u32>; 13] = [
+pub(crate) const BUILT_IN_ABOVE: [Option<u32>; 13] = [
     None,
     None,
     None,
@@ -116,7 +116,8 @@ const BUILT_IN_ABOVE: [Option<u32>; 13] = [
     Some(7),
 ];
 
-fn only(alloc: Global, class: Option<u32>) -> Result<Numbers, NoMemory>
+/// A list of this class, where there is one.
+pub(crate) fn only(alloc: Global, class: Option<u32>) -> Result<Numbers, NoMemory>
     ensures { IfOk result (λ supers. supers ≡ cons_option class []) }
 {
     let mut supers = Items::new(alloc);
@@ -197,7 +198,7 @@ fn has_class_before(kinds: &[ClassKind], before: &[Option<u32>]) -> bool
     before.iter().any(|named| is_no_interface(kinds, *named))
 }
 
-fn is_interface_keyword(keyword: ClassKeyword) -> bool
+pub(crate) fn is_interface_keyword(keyword: ClassKeyword) -> bool
     ensures { result ≡ is_interface_word keyword }
 {
     match keyword {

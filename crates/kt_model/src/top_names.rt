@@ -102,6 +102,13 @@ impl TopNames {
         self.functions.contains(&name)
     }
 
+    /// The place of the function with that name among the file's functions. `None` exactly where there is none.
+    pub fn function_named(&self, name: u32) -> Option<usize>
+        ensures { result ≡ position (λ f. f == name) self.now.function_names }
+    {
+        place_in(&self.functions, name)
+    }
+
     /// The number of the class that a word names, by its name's number. `None` exactly where it names none.
     #[tactic(auto, unfolding(crate::specs::TopNames::class_named))]
     pub fn class_named(&self, name: u32) -> Option<u32>
