@@ -1,15 +1,16 @@
 -- A list of numbers, and marks that tell its members.
 use Rattle.std.specs.Prelude.{◌≡◌, ◌<◌, ◌⊎◌, ◌↔◌, ◌++◌, ℕ, Bool, true, false, List, [], ◌∷◌, Some, slice_get, Contains, length, ◌+◌, count_by, not, slice_index}
-use Rattle.std.specs.Prelude.{◌==◌, if◌then◌else◌}
+use Rattle.std.specs.Prelude.{◌==◌, ◌^◌, if◌then◌else◌}
 use Rattle.std.specs.List.{list_any}
 use Rattle.kt_tree.specs.declared.ast.declaration.File.{File}
 use Rattle.kt_tree.specs.declared.ast.declaration.ClassDecl.{ClassDecl}
+use Rattle.kt_model.specs.declared.class_table.ClassRow.{ClassRow}
 use Rattle.kt_model.specs.declared.class_table.ClassKind.{ClassKind}
 use Rattle.kt_model.specs.declared.finding.Finding.{Finding}
 use Rattle.kt_model.specs.declared.finding.Rule.TheVariants.{SupertypeCycle}
 use Rattle.kt_model.specs.TopNames.{Tops}
 use Rattle.kt_model.specs.DeclarationRules.{supertype_misfits, IsOfClass}
-use Rattle.kt_model.specs.Classes.{Classes, any, supers_of, supers, IsProperlyAbove}
+use Rattle.kt_model.specs.Classes.{Classes, outlines, written, any, supers_of, supers, IsProperlyAbove}
 
 abbrev pub IsMarked : List Bool → ℕ → Type 0
 IsMarked marks k = slice_get marks k ≡ Some true
@@ -66,3 +67,12 @@ IsFilled classes counts n aboves = (c : ℕ) → c < length classes → slice_in
 -- those with n, as far as i, have theirs too
 abbrev pub IsFilledTo : Classes → List ℕ → ℕ → ℕ → Classes → Type 0
 IsFilledTo classes counts n i aboves = (c : ℕ) → c < i → slice_index counts c ≡ n → supers_of aboves c ≡ supers classes c
+
+-- Each row has the classes above its class.
+abbrev pub HasAboves : List ClassRow → Type 0
+HasAboves rows = (c : ℕ) (row : ClassRow) → slice_get rows c ≡ Some row → row.above ≡ supers (written (outlines rows)) c
+
+-- and members that have numbers below 2 ^ 32
+pub record IsRowed (rows : List ClassRow) : Type 0 where
+  pub aboves : HasAboves rows
+  pub few : (c : ℕ) (row : ClassRow) → slice_get rows c ≡ Some row → length row.members < 2 ^ 32

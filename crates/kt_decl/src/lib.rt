@@ -6,15 +6,18 @@ mod aboves;
 mod findings;
 mod hierarchy;
 mod inheritance;
+mod meeting;
 mod outlines;
 
+mod rows;
 mod sites;
 mod supertypes;
 mod words;
 
 pub use aboves::all_above;
 pub use findings::declaration_findings;
-pub use outlines::{Around, read_off, result_types};
+pub use meeting::inherited;
+pub use rows::{built_in_row, class_row};
 pub use hierarchy::{is_ranked, search_all};
 pub use inheritance::{implementation, is_sub, member};
 pub use supertypes::all_supers;

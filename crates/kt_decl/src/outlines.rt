@@ -10,18 +10,17 @@ ghost use Rattle.kt_model.specs.Subtypes.{head_of};
 ghost use Rattle.kt_model.specs.Outlines as spec;
 
 use crate::sites::body_gives_unit;
-use crate::supertypes::{BUILT_IN_ABOVE, BUILT_IN_KINDS, is_among, is_interface_keyword, kind_of_class, named_supers, only};
-use crate::words::{class_body, constructor_parameters};
-use kt_model::class_table::{ClassKind, ClassRow, MemberKind, MemberRow, Numbers, ParamType};
+use crate::words::class_body;
 use kt_model::kinds::{Head, KtType, Types};
+use kt_model::class_table::ParamType;
 use kt_model::top_names::TopNames;
 use kt_tree::NoMemory;
-use kt_tree::ast::{ClassDecl, ClassParameter, Expr, ExprKind, File, FunctionDecl, Member, Modifier, ModifierKind, Parameter, ParameterType, PropertyDecl, TypeRef};
+use kt_tree::ast::{ClassParameter, Expr, ExprKind, File, FunctionDecl, Member, Parameter, ParameterType, PropertyDecl, TypeRef};
 use sqlite_items::Items;
 use std::alloc::Global;
 
 /// The type that is written.
-fn written_type(tops: &TopNames, w: &TypeRef) -> KtType
+pub(crate) fn written_type(tops: &TopNames, w: &TypeRef) -> KtType
     ensures { result ≡ spec.written_type tops.now w.now }
 {
     KtType {
@@ -30,7 +29,7 @@ fn written_type(tops: &TopNames, w: &TypeRef) -> KtType
     }
 }
 
-fn plain(head: Head) -> KtType
+pub(crate) fn plain(head: Head) -> KtType
     ensures { result ≡ spec.plain head }
 {
     KtType {
@@ -68,7 +67,7 @@ fn parameter_type(
     }
 }
 
-fn parameter_types(
+pub(crate) fn parameter_types(
     alloc: Global,
     tops: &TopNames,
     parameters: &[Parameter],
@@ -82,7 +81,7 @@ fn parameter_types(
     Ok(out)
 }
 
-fn result_type(tops: &TopNames, f: &FunctionDecl) -> Option<KtType>
+pub(crate) fn result_type(tops: &TopNames, f: &FunctionDecl) -> Option<KtType>
     ensures { result ≡ spec.function_result tops.now f.now }
 {
     match &f.result {
@@ -93,7 +92,7 @@ fn result_type(tops: &TopNames, f: &FunctionDecl) -> Option<KtType>
 }
 
 /// For each function its result type.
-pub fn result_types(
+pub(crate) fn result_types(
     alloc: Global,
     tops: &TopNames,
     functions: &[FunctionDecl],
@@ -201,7 +200,7 @@ fn parameter_named(
 
 /// What a class's own members are read with: the file, its top, and the classes above the class.
 #[derive(Clone, Copy)]
-pub struct Around<'a> {
+pub(crate) struct Around<'a> {
     pub file: &'a File,
     pub tops: &'a TopNames,
     pub results: &'a [Option<KtType>],
@@ -210,7 +209,7 @@ pub struct Around<'a> {
 }
 
 /// The type that is read off an initialiser.
-pub fn read_off(around: &Around, value: &ExprKind) -> Option<KtType>
+fn read_off(around: &Around, value: &ExprKind) -> Option<KtType>
     requires tops { around.now.tops.now ≡ top_names around.now.file.now }
     requires results { around.now.results.now ≡ spec.results_of around.now.file.now }
     ensures { result ≡ spec.read_off (record { file = around.now.file.now; above = around.now.above.now; parameters = around.now.parameters.now }) value.now }
@@ -236,4 +235,27 @@ fn call_read_off(around: &Around, name: u32) -> Option<KtType>
         return None;
     }
     called_type(around.tops, around.results, name)
+}
+
+/// The type of a property: the written one, else the one that is read off its initialiser.
+pub(crate) fn property_type(around: &Around, p: &PropertyDecl) -> Option<KtType>
+    requires tops { around.now.tops.now ≡ top_names around.now.file.now }
+    requires results { around.now.results.now ≡ spec.results_of around.now.file.now }
+    ensures { result ≡ spec.property_type (record { file = around.now.file.now; above = around.now.above.now; parameters = around.now.parameters.now }) p.now.written p.now.value }
+{
+    match &p.written {
+        Some(w) => Some(written_type(around.tops, w)),
+        None => value_type(around, &p.value),
+    }
+}
+
+fn value_type(around: &Around, value: &Option<Expr>) -> Option<KtType>
+    requires tops { around.now.tops.now ≡ top_names around.now.file.now }
+    requires results { around.now.results.now ≡ spec.results_of around.now.file.now }
+    ensures { result ≡ spec.value_type (record { file = around.now.file.now; above = around.now.above.now; parameters = around.now.parameters.now }) value.now }
+{
+    match value {
+        Some(e) => read_off(around, &e.kind),
+        None => None,
+    }
 }

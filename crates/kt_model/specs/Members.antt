@@ -2,8 +2,8 @@
 --
 -- From the Kotlin specification, "Inheritance" and "Overriding". What happens where several candidates meet is this project's own reading of
 -- real Kotlin's behaviour. The code marks what is hidden, and keeps what each class has.
-use Rattle.std.specs.Prelude.{◌==◌, ◌&&◌, ◌||◌, ℕ, Bool, true, false, not, List, [], ◌∷◌, ◌++◌, map, Option, Some, None, find, position, slice_get, count_by, nat_le, unwrap_or, option_and_then, if◌then◌else◌, is_some}
-use Rattle.std.specs.List.{list_any, list_all, filter_map, flat_map}
+use Rattle.std.specs.Prelude.{◌==◌, ◌&&◌, ◌||◌, ℕ, Bool, true, false, not, List, [], ◌∷◌, ◌++◌, map, Option, Some, None, length, find, position, slice_get, count_by, nat_le, unwrap_or, option_and_then, if◌then◌else◌, is_some}
+use Rattle.std.specs.List.{list_any, list_all, filter_map, flat_map, zip}
 use Rattle.std.specs.Option.{option_map}
 use Rattle.kt_model.specs.declared.class_table.ClassKind.{ClassKind}
 use Rattle.kt_model.specs.declared.class_table.ClassKind.TheVariants.{Interface}
@@ -73,9 +73,7 @@ abbrev pub same_type : KtType → KtType → Bool
 same_type a b = same_class (class_of a.head) (class_of b.head) && same_bool a.nullable b.nullable
 
 abbrev pub same_types : List KtType → List KtType → Bool
-same_types [] [] = true
-same_types (a ∷ as') (b ∷ bs) = same_type a b && same_types as' bs
-same_types _ _ = false
+same_types ts us = length ts == length us && list_all (λ (t, u). same_type t u) (zip ts us)
 
 abbrev pub same_param : ParamType → ParamType → Bool
 same_param (Value a) (Value b) = same_type a b
@@ -83,9 +81,7 @@ same_param (Lambda ps r) (Lambda qs s) = same_types ps qs && same_type r s
 same_param _ _ = false
 
 abbrev pub same_params : List ParamType → List ParamType → Bool
-same_params [] [] = true
-same_params (p ∷ ps) (q ∷ qs) = same_param p q && same_params ps qs
-same_params _ _ = false
+same_params ps qs = length ps == length qs && list_all (λ (p, q). same_param p q) (zip ps qs)
 
 -- the test of the subtype relation
 abbrev pub is_head_under : Outlines → Option ℕ → Option ℕ → Bool

@@ -142,12 +142,18 @@ abbrev pub property_kind : Bool → PropertyDecl → MemberKind
 property_kind in_interface p =
     if has_modifier p.modifiers modifier.Abstract || (in_interface && not (is_some p.getter)) then AbstractProperty else (if is_some p.getter then Getter else Field)
 
+abbrev pub function_row : Tops → Bool → FunctionDecl → MemberRow
+function_row tops in_interface f =
+    record { name = f.name.name; kind = function_kind in_interface f; is_var = false; is_private = has_modifier f.modifiers modifier.Private; may_override = may_override f.modifiers in_interface; params = map (λ p. parameter_type tops p.kind) f.parameters; result = function_result tops f }
+
+abbrev pub declared_property_row : Around → Bool → PropertyDecl → MemberRow
+declared_property_row around in_interface p =
+    record { name = p.name.name; kind = property_kind in_interface p; is_var = p.is_var; is_private = has_modifier p.modifiers modifier.Private; may_override = may_override p.modifiers in_interface; params = []; result = property_type around p.written p.value }
+
 abbrev pub member_row : Around → Bool → Member → Option MemberRow
 member_row around in_interface (member.Init b) = None
-member_row around in_interface (member.Function f) =
-    Some (record { name = f.name.name; kind = function_kind in_interface f; is_var = false; is_private = has_modifier f.modifiers modifier.Private; may_override = may_override f.modifiers in_interface; params = map (λ p. parameter_type (top_names around.file) p.kind) f.parameters; result = function_result (top_names around.file) f })
-member_row around in_interface (member.Property p) =
-    Some (record { name = p.name.name; kind = property_kind in_interface p; is_var = p.is_var; is_private = has_modifier p.modifiers modifier.Private; may_override = may_override p.modifiers in_interface; params = []; result = property_type around p.written p.value })
+member_row around in_interface (member.Function f) = Some (function_row (top_names around.file) in_interface f)
+member_row around in_interface (member.Property p) = Some (declared_property_row around in_interface p)
 
 -- the constructor's properties, then the others in the order of the text
 unfoldable pub class_members : File → List ℕ → ClassDecl → List MemberRow
