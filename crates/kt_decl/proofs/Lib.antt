@@ -4,3 +4,4 @@ pub mod SearchLemmas
 pub mod RankLemmas
 pub mod ClassSteps
 pub mod AboveLemmas
+pub mod RowLemmas

@@ -53,3 +53,10 @@ take_end [] zero b = refl
 take_end [] (suc i) b = refl
 take_end (x ∷ xs) zero b = absurd (omega arith)
 take_end (x ∷ xs) (suc i) b = ap (λ z. x ∷ z) (take_end xs i (omega arith))
+
+-- what a number gives goes to the end
+pub push_number : {Y : Type 0} (h : ℕ → Option Y) (xs : List ℕ) (i : ℕ) (start words new : List Y) (o : Option Y) → i < length xs → o ≡ h (get_or xs i 0) → words ≡ start ++ filter_map h (take i xs) → new ≡ words ++ cons_option o [] → new ≡ start ++ filter_map h (take (i + 1) xs)
+push_number h xs i start words new o within gives so_far grown =
+    let more : filter_map h (take (i + 1) xs) ≡ filter_map h (take i xs) ++ cons_option (h (get_or xs i 0)) [] = rw (take_more xs i 0 within) (filter_map-append h (take i xs) (get_or xs i 0 ∷ [])) in
+    let front : words ++ cons_option o [] ≡ (start ++ filter_map h (take i xs)) ++ cons_option (h (get_or xs i 0)) [] = (λ k. so_far k ++ cons_option (gives k) []) in
+    grown ∙ front ∙ append_assoc start (filter_map h (take i xs)) (cons_option (h (get_or xs i 0)) []) ∙ ap (λ z. start ++ z) (sym more)

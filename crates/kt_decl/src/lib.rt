@@ -10,14 +10,15 @@ mod meeting;
 mod outlines;
 
 mod rows;
+mod settle;
 mod sites;
 mod supertypes;
 mod words;
 
 pub use aboves::all_above;
 pub use findings::declaration_findings;
-pub use meeting::inherited;
 pub use rows::{built_in_row, class_row};
 pub use hierarchy::{is_ranked, search_all};
 pub use inheritance::{implementation, is_sub, member};
+pub use settle::settle_class;
 pub use supertypes::all_supers;

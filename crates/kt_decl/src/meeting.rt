@@ -1,6 +1,6 @@
 //! Members in the rows of a table, and candidates that meet: whether they go together, and which of them fits.
-ghost use Rattle.std.specs.Prelude.{◌≡◌, ◌<◌, ◌^◌, ◌==◌, ◌&&◌, ℕ, length, option_copied, position, IfSome, count_by, not, find};
-ghost use Rattle.std.specs.List.{list_any, list_all};
+ghost use Rattle.std.specs.Prelude.{◌≡◌, ◌<◌, ◌^◌, ◌==◌, ◌&&◌, ◌||◌, ℕ, length, option_copied, position, IfSome, count_by, not, find};
+ghost use Rattle.std.specs.List.{list_any, list_all, zip};
 ghost use Rattle.kt_model.specs.Classes.{outlines, written, supers};
 ghost use Rattle.kt_model.specs.Subtypes.{class_of, is_under};
 ghost use Rattle.kt_model.specs.Members as spec;
@@ -34,7 +34,13 @@ pub(crate) fn same_type(a: &KtType, b: &KtType) -> bool
 fn same_types(a: &[KtType], b: &[KtType]) -> bool
     ensures { result ≡ spec.same_types a.now b.now }
 {
-    a.len() == b.len() && a.iter().zip(b).all(|(x, y)| same_type(x, y))
+    a.len() == b.len() && pairs_same(a, b)
+}
+
+fn pairs_same(a: &[KtType], b: &[KtType]) -> bool
+    ensures { result ≡ list_all (λ (t, u). spec.same_type t u) (zip a.now b.now) }
+{
+    a.iter().zip(b).all(|(x, y)| same_type(x, y))
 }
 
 fn same_param(a: &ParamType, b: &ParamType) -> bool
@@ -52,7 +58,13 @@ fn same_param(a: &ParamType, b: &ParamType) -> bool
 fn same_params(a: &[ParamType], b: &[ParamType]) -> bool
     ensures { result ≡ spec.same_params a.now b.now }
 {
-    a.len() == b.len() && a.iter().zip(b).all(|(x, y)| same_param(x, y))
+    a.len() == b.len() && pairs_agree(a, b)
+}
+
+fn pairs_agree(a: &[ParamType], b: &[ParamType]) -> bool
+    ensures { result ≡ list_all (λ (p, q). spec.same_param p q) (zip a.now b.now) }
+{
+    a.iter().zip(b).all(|(x, y)| same_param(x, y))
 }
 
 /// Whether a class is under another, by the rows.
@@ -142,7 +154,7 @@ fn place_of_name(members: &[MemberRow], name: u32) -> Option<usize>
     members.iter().position(|m| m.name == name)
 }
 
-fn is_abstract(kind: MemberKind) -> bool
+pub(crate) fn is_abstract(kind: MemberKind) -> bool
     ensures { result ≡ spec.is_abstract kind }
 {
     match kind {
@@ -169,7 +181,7 @@ fn is_private_at(rows: &[ClassRow], m: Member) -> bool
     }
 }
 
-pub(crate) fn is_abstract_at(rows: &[ClassRow], m: Member) -> bool
+fn is_abstract_at(rows: &[ClassRow], m: Member) -> bool
     ensures { result ≡ spec.is_abstract_at (outlines rows.now) m }
 {
     match row_at(rows, m) {
@@ -338,7 +350,7 @@ fn fitting(rows: &[ClassRow], members: &[Member]) -> Option<Member>
 }
 
 /// What a class has where it declares nothing itself: the one candidate, else the fitting one.
-pub fn inherited(rows: &[ClassRow], members: &[Member]) -> Option<Member>
+pub(crate) fn inherited(rows: &[ClassRow], members: &[Member]) -> Option<Member>
     requires { IsRowed rows.now }
     ensures { result ≡ spec.inherited (outlines rows.now) members.now }
 {
