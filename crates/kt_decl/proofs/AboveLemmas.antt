@@ -85,12 +85,12 @@ module _ (classes aboves : Classes) (known : HasKnownSupers classes) (class : �
 -- ---- filling in
 
 module _ {A : Type 0} where
-  set_same : (xs : List A) (i : ℕ) (v : A) → i < length xs → slice_get (slice_set xs i v) i ≡ Some v
+  pub set_same : (xs : List A) (i : ℕ) (v : A) → i < length xs → slice_get (slice_set xs i v) i ≡ Some v
   set_same [] i v h = absurd (omega arith)
   set_same (x ∷ xs) zero v h = refl
   set_same (x ∷ xs) (suc i) v h = set_same xs i v (omega arith)
 
-  set_other : (xs : List A) (i k : ℕ) (v : A) → (k ≡ i → ⊥) → slice_get (slice_set xs i v) k ≡ slice_get xs k
+  pub set_other : (xs : List A) (i k : ℕ) (v : A) → (k ≡ i → ⊥) → slice_get (slice_set xs i v) k ≡ slice_get xs k
   set_other [] i k v n = refl
   set_other (x ∷ xs) zero zero v n = absurd (n refl)
   set_other (x ∷ xs) zero (suc k) v n = refl

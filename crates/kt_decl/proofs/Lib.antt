@@ -5,3 +5,4 @@ pub mod RankLemmas
 pub mod ClassSteps
 pub mod AboveLemmas
 pub mod RowLemmas
+pub mod TableLemmas

@@ -1,5 +1,5 @@
 -- One more item, at a step of a loop.
-use Rattle.std.proofs.Common.{◌≡◌, ◌<◌, ◌+◌, ℕ, List, [], ◌∷◌, ◌++◌, Option, Some, None, length, get_or, take, refl, sym, ap, subst, inl, inr, suc, zero, arith, ◌∙◌, ◌≤◌, append_assoc, slice_get}
+use Rattle.std.proofs.Common.{◌≡◌, ◌<◌, ◌+◌, ℕ, List, [], ◌∷◌, ◌++◌, Option, Some, None, length, get_or, take, drop, refl, sym, ap, subst, inl, inr, suc, zero, arith, ◌∙◌, ◌≤◌, append_assoc, slice_get}
 use Rattle.std.specs.List.{filter_map, cons_option}
 use Rattle.std.proofs.lemmas.Bool.{cases_lt}
 use Rattle.std.proofs.Math.ListN.{get_or-append}
@@ -60,3 +60,18 @@ push_number h xs i start words new o within gives so_far grown =
     let more : filter_map h (take (i + 1) xs) ≡ filter_map h (take i xs) ++ cons_option (h (get_or xs i 0)) [] = rw (take_more xs i 0 within) (filter_map-append h (take i xs) (get_or xs i 0 ∷ [])) in
     let front : words ++ cons_option o [] ≡ (start ++ filter_map h (take i xs)) ++ cons_option (h (get_or xs i 0)) [] = (λ k. so_far k ++ cons_option (gives k) []) in
     grown ∙ front ∙ append_assoc start (filter_map h (take i xs)) (cons_option (h (get_or xs i 0)) []) ∙ ap (λ z. start ++ z) (sym more)
+
+-- the items that are left begin with the next one
+pub drop_more : {A : Type 0} (xs : List A) (i : ℕ) (x : A) → i < length xs → x ≡ get_or xs i x → drop i xs ≡ x ∷ drop (i + 1) xs
+drop_more [] i x b is = absurd (omega arith)
+drop_more (y ∷ xs) zero x b is = ap (λ z. z ∷ xs) (sym is)
+drop_more (y ∷ xs) (suc i) x b is = rw suc_plus (drop_more xs i x (omega arith) is)
+  where
+    suc_plus : suc i + 1 ≡ suc (i + 1)
+    suc_plus = omega arith
+
+pub drop_end : {A : Type 0} (xs : List A) (i : ℕ) → length xs ≤ i → drop i xs ≡ []
+drop_end [] zero b = refl
+drop_end [] (suc i) b = refl
+drop_end (x ∷ xs) zero b = absurd (omega arith)
+drop_end (x ∷ xs) (suc i) b = drop_end xs i (omega arith)

@@ -1,6 +1,6 @@
 -- A list of numbers, and marks that tell its members.
 use Rattle.std.specs.Prelude.{◌≡◌, ◌<◌, ◌⊎◌, ◌↔◌, ◌++◌, ℕ, Bool, true, false, List, [], ◌∷◌, Some, slice_get, Contains, length, ◌+◌, count_by, not, slice_index}
-use Rattle.std.specs.Prelude.{◌==◌, ◌^◌, if◌then◌else◌}
+use Rattle.std.specs.Prelude.{◌==◌, ◌^◌, map, take, if◌then◌else◌}
 use Rattle.std.specs.List.{list_any}
 use Rattle.kt_tree.specs.declared.ast.declaration.File.{File}
 use Rattle.kt_tree.specs.declared.ast.declaration.ClassDecl.{ClassDecl}
@@ -9,7 +9,9 @@ use Rattle.kt_model.specs.declared.class_table.ClassKind.{ClassKind}
 use Rattle.kt_model.specs.declared.finding.Finding.{Finding}
 use Rattle.kt_model.specs.declared.finding.Rule.TheVariants.{SupertypeCycle}
 use Rattle.kt_model.specs.TopNames.{Tops}
-use Rattle.kt_model.specs.DeclarationRules.{supertype_misfits, IsOfClass}
+use Rattle.kt_model.specs.DeclarationRules.{supertype_misfits, classes_of, IsOfClass}
+use Rattle.kt_model.specs.Outlines.{built_in_outline, built_in_numbers}
+use Rattle.kt_model.specs.Members.{settled_of}
 use Rattle.kt_model.specs.Classes.{Classes, outlines, written, any, supers_of, supers, IsProperlyAbove}
 
 abbrev pub IsMarked : List Bool → ℕ → Type 0
@@ -76,3 +78,19 @@ HasAboves rows = (c : ℕ) (row : ClassRow) → slice_get rows c ≡ Some row �
 pub record IsRowed (rows : List ClassRow) : Type 0 where
   pub aboves : HasAboves rows
   pub few : (c : ℕ) (row : ClassRow) → slice_get rows c ≡ Some row → length row.members < 2 ^ 32
+
+-- rows with these classes above theirs
+abbrev pub AreRowsOf : Classes → List ClassRow → Type 0
+AreRowsOf aboves rows = (c : ℕ) (row : ClassRow) → slice_get rows c ≡ Some row → (row.above ≡ supers_of aboves c) × (length row.members < 2 ^ 32)
+
+-- the classes above each class of a file
+abbrev pub HaveAboves : File → Classes → Type 0
+HaveAboves file aboves = (c : ℕ) → c < length aboves → supers_of aboves c ≡ supers (classes_of file) c
+
+-- the rows of the first n built-in classes
+abbrev pub AreBuiltIn : ℕ → List ClassRow → Type 0
+AreBuiltIn n rows = outlines rows ≡ map built_in_outline (take n built_in_numbers)
+
+-- what the first n classes have is settled
+abbrev pub AreSettled : ℕ → List ClassRow → Type 0
+AreSettled n rows = (c : ℕ) (row : ClassRow) → c < n → slice_get rows c ≡ Some row → row.settled ≡ settled_of (outlines rows) c

@@ -164,7 +164,7 @@ fn past_all(counts: &[usize]) -> usize
 }
 
 /// What is above each class, by rising counts of the classes above.
-pub fn all_above(
+pub(crate) fn all_above(
     alloc: Global,
     classes: &[Numbers],
     counts: &[usize],

@@ -14,7 +14,7 @@ use kt_tree::ast::File;
 use std::alloc::Global;
 
 /// Exactly what is violated in the declarations, in order, none twice.
-pub fn declaration_findings(
+pub(crate) fn declaration_findings(
     alloc: Global,
     tops: &TopNames,
     cycles: &[bool],

@@ -91,13 +91,13 @@ fn classes_above(
 
 /// For each class how many are above it, and whether it is above itself.
 #[derive(Drop)]
-pub struct Hierarchy {
+pub(crate) struct Hierarchy {
     pub counts: Vec<usize>,
     pub cycles: Vec<bool>,
 }
 
 /// Searches from each class.
-pub fn search_all(alloc: Global, classes: &[Numbers]) -> Result<Hierarchy, NoMemory>
+pub(crate) fn search_all(alloc: Global, classes: &[Numbers]) -> Result<Hierarchy, NoMemory>
     requires few { length classes.now < 2 ^ 32 }
     requires closed { HasKnownSupers classes.now }
     ensures counts { IfOk result (λ h. CountsAll classes.now h.counts.items) }
@@ -117,7 +117,7 @@ pub fn search_all(alloc: Global, classes: &[Numbers]) -> Result<Hierarchy, NoMem
 }
 
 /// The counts rank the classes, where none is above itself.
-pub fn is_ranked(classes: &[Numbers], counts: &[usize])
+pub(crate) fn is_ranked(classes: &[Numbers], counts: &[usize])
     requires some { 0 < length classes.now }
     requires closed { HasKnownSupers classes.now }
     requires len { length counts.now ≡ length classes.now }

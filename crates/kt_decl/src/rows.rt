@@ -1,5 +1,5 @@
 //! The rows of the class table, before what each class has is settled.
-ghost use Rattle.std.specs.Prelude.{◌≡◌, ◌++◌, ◌+◌, ◌<◌, ◌∷◌, [], IfOk, OnOk, map, length, slice_get, unwrap_or, vec_len, ℕ, Some, None, Option, is_some, true, false};
+ghost use Rattle.std.specs.Prelude.{◌≡◌, ◌++◌, ◌+◌, ◌<◌, ◌^◌, ◌∷◌, [], IfOk, OnOk, map, length, slice_get, unwrap_or, vec_len, ℕ, Some, None, Option, is_some, true, false};
 ghost use Rattle.std.specs.Option.{option_map};
 ghost use Rattle.std.specs.List.{filter_map, cons_option};
 ghost use Rattle.kt_model.specs.declared.class_table.ClassRow.{ClassRow};
@@ -198,8 +198,8 @@ fn members_of_class(
     Ok(members)
 }
 
-/// The row of a class, with nothing settled.
-pub fn class_row(
+/// The row of a class, with nothing settled. `NoMemory` too where its members are too many for their numbers.
+pub(crate) fn class_row(
     alloc: Global,
     file: &File,
     tops: &TopNames,
@@ -211,13 +211,18 @@ pub fn class_row(
     requires results { results.now ≡ spec.results_of file.now }
     ensures outline { IfOk result (λ row. outline row ≡ spec.class_outline file.now above.now c.now) }
     ensures above { IfOk result (λ row. row.above ≡ above.now) }
+    ensures few { IfOk result (λ row. length row.members < 2 ^ 32) }
 {
+    let members = members_of_class(alloc, file, tops, results, above, c)?;
+    if members.len() > u32::MAX as usize {
+        return Err(NoMemory);
+    }
     Ok(ClassRow {
         name: c.name.name,
         kind: kind_of_class(c),
         supers: named_supers(alloc, tops, c.supertypes.as_slice())?,
         above: Items::from_slice(alloc, above)?,
-        members: members_of_class(alloc, file, tops, results, above, c)?,
+        members,
         settled: Items::new(alloc),
     })
 }
@@ -279,16 +284,21 @@ fn built_in_super(class: u32) -> Option<u32>
     }
 }
 
-pub fn built_in_row(alloc: Global, class: u32, above: &[u32]) -> Result<ClassRow, NoMemory>
+pub(crate) fn built_in_row(alloc: Global, class: u32, above: &[u32]) -> Result<ClassRow, NoMemory>
     ensures outline { IfOk result (λ row. outline row ≡ spec.built_in_outline class) }
     ensures above { IfOk result (λ row. row.above ≡ above.now) }
+    ensures few { IfOk result (λ row. length row.members < 2 ^ 32) }
 {
+    let members = built_in_members(alloc, class)?;
+    if members.len() > u32::MAX as usize {
+        return Err(NoMemory);
+    }
     Ok(ClassRow {
         name: class,
         kind: built_in_kind(class),
         supers: only(alloc, built_in_super(class))?,
         above: Items::from_slice(alloc, above)?,
-        members: built_in_members(alloc, class)?,
+        members,
         settled: Items::new(alloc),
     })
 }

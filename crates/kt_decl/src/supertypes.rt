@@ -136,7 +136,7 @@ fn supers_built_in(alloc: Global) -> Result<Vec<Numbers>, NoMemory>
 }
 
 /// For each class its written supertypes.
-pub fn all_supers(
+pub(crate) fn all_supers(
     alloc: Global,
     tops: &TopNames,
     file: &File,

@@ -178,6 +178,10 @@ pub enum PhaseFault {
 }
 
 impl From<NoMemory> for PhaseFault {
+    ghost use Rattle.kt_model.specs.declared.finding.PhaseFault.TheVariants as fault;
+
+    ghost from_gives = { λ _ e. e ≡ fault.NoMemory };
+
     fn from(_error: NoMemory) -> PhaseFault {
         PhaseFault::NoMemory
     }
