@@ -7,3 +7,12 @@ pub mod Names
 pub mod NodePaths
 pub mod Flow
 pub mod Rules
+pub mod Findings
+pub mod Classes
+pub mod Subtypes
+pub mod Members
+pub mod Settled
+pub mod TopNames
+pub mod Sites
+pub mod DeclarationRules
+pub mod Outlines

@@ -1,0 +1,8 @@
+use Rattle.std.proofs.Common.{◌≡◌, ◌++◌, map, take, false, find, None, ◌==◌}
+use Rattle.std.specs.List.{list_any, filter_map}
+use Rattle.std.specs.Option.{option_map}
+use Rattle.kt_model.specs.Outlines as spec
+use Rattle.kt_decl.proofs.outlines.has_function_named.Given as goal
+
+abbrev pub invariant-loop-m : goal.invariant-loop-m
+invariant-loop-m l = list_any (spec.is_function_of l.name) (take l.m-index l.members) ≡ false

@@ -1,0 +1,8 @@
+use Rattle.std.proofs.Common.{◌≡◌, ◌++◌, map, take, false, find, None, ◌==◌}
+use Rattle.std.specs.List.{list_any, filter_map}
+use Rattle.std.specs.Option.{option_map}
+use Rattle.kt_model.specs.Outlines as spec
+use Rattle.kt_decl.proofs.outlines.parameter_types.Given as goal
+
+abbrev pub invariant-loop-p : goal.invariant-loop-p
+invariant-loop-p l = l.out ≡ map (λ p. spec.parameter_type l.tops p.kind) (take l.p-index l.parameters)
