@@ -3,14 +3,11 @@ use Rattle.std.proofs.Common.{◌≡◌, ◌≢◌, true, refl, sym, ap, ◌∙�
 use Rattle.std.specs.Ordering.{nat_cmp, ordering_then, ordering_reverse}
 use Rattle.std.specs.Cmp.{IsTotalOrder}
 use Rattle.std.specs.FinMap.{nat_cmp-IsAntisymmetric, slice_cmp-IsAntisymmetric}
-use Rattle.std.specs.Str.{bytes_eq}
-use Rattle.std.proofs.lemmas.Bool.{false≢true}
 use Rattle.std.proofs.lemmas.Cmp.{then_total, on_total, nat_cmp_total, nat_list_cmp_total, tied_itself}
 use Rattle.kt_model.specs.Codes.{code_of}
 use Rattle.kt_model.specs.Order.{by_place}
 use Rattle.kt_model.specs.declared.finding.Finding.{Finding}
-use Rattle.kt_model.specs.declared.finding.Rule.{Rule}
-use Rattle.kt_model.specs.declared.finding.Rule.TheVariants.{SourceTooLong, Syntax, UnknownName, DuplicateLocal, Unassigned, ValTwice}
+use Rattle.kt_model.proofs.CodeLemmas.{code_of-injective}
 
 pub by_place_total : IsTotalOrder by_place
 by_place_total =
@@ -24,30 +21,12 @@ then_equal Less b h = absurd (cc)
 then_equal Equal b h = (refl, h)
 then_equal Greater b h = absurd (cc)
 
--- Codes are distinct.
-same_rule : (a b : Rule) → bytes_eq (code_of a) (code_of b) ≡ true → a ≡ b
-same_rule SourceTooLong SourceTooLong h = refl
-same_rule Syntax Syntax h = refl
-same_rule UnknownName UnknownName h = refl
-same_rule DuplicateLocal DuplicateLocal h = refl
-same_rule Unassigned Unassigned h = refl
-same_rule ValTwice ValTwice h = refl
-same_rule _ _ h = absurd (false≢true h)
-
-code_itself : (a : Rule) → bytes_eq (code_of a) (code_of a) ≡ true
-code_itself SourceTooLong = refl
-code_itself Syntax = refl
-code_itself UnknownName = refl
-code_itself DuplicateLocal = refl
-code_itself Unassigned = refl
-code_itself ValTwice = refl
-
 pub same_place : (f g : Finding) → by_place f g ≡ Equal → f ≡ g
 same_place f g h =
     let start = then_equal (nat_cmp f.span.start g.span.start) _ h in
     let end = then_equal (nat_cmp f.span.end g.span.end) _ start.1 in
     let code : code_of f.rule ≡ code_of g.rule = slice_cmp-IsAntisymmetric nat_cmp-IsAntisymmetric (code_of f.rule) (code_of g.rule) end.1 in
-    let rule : f.rule ≡ g.rule = same_rule f.rule g.rule (ap (bytes_eq (code_of f.rule)) (sym code) ∙ code_itself f.rule) in
+    let rule : f.rule ≡ g.rule = code_of-injective f.rule g.rule code in
     let from : f.span.start ≡ g.span.start = nat_cmp-IsAntisymmetric f.span.start g.span.start start.0 in
     let until : f.span.end ≡ g.span.end = nat_cmp-IsAntisymmetric f.span.end g.span.end end.0 in
     λ i. record { rule = rule i; span = record { start = from i; end = until i } }

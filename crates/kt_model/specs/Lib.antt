@@ -6,3 +6,9 @@ pub mod Paths
 pub mod Names
 pub mod Flow
 pub mod Rules
+pub mod Findings
+pub mod Classes
+pub mod Subtypes
+pub mod Members
+pub mod Settled
+pub mod TopNames

@@ -1,8 +1,16 @@
-//! Violated rules.
-ghost use Rattle.std.specs.Prelude.{◌≡◌};
+//! Violated rules, and the findings of a phase in their order.
+ghost use Rattle.std.specs.Prelude.{◌≡◌, Contains};
+ghost use Rattle.std.specs.Ordering.{as_partial_cmp};
+ghost use Rattle.std.specs.Cmp.{partial_order_from_own_ties};
+ghost use Rattle.std.specs.Cmp.Rules.{comparing};
+ghost use Rattle.std.proofs.Common.{rules};
 ghost use Rattle.kt_model.specs.Codes.{code_of, text_of};
+ghost use Rattle.kt_model.specs.Order.{by_place, same_finding};
+ghost use Rattle.kt_model.specs.Findings.{AreFindings};
 
-use kt_tree::Span;
+use kt_tree::{NoMemory, Span};
+use sqlite_items::Items;
+use std::cmp::Ordering;
 
 /// A rule, by its code.
 #[derive(Clone, Copy, Debug, PartialEq, Eq)]
@@ -19,6 +27,30 @@ pub enum Rule {
     Unassigned,
     /// A `val` is assigned where it may hold a value.
     ValTwice,
+    /// A second top-level name, member of one class or parameter of one list has this name.
+    Duplicate,
+    /// A written type or supertype names no class.
+    UnknownType,
+    /// A written supertype is none that the class may have there.
+    Supertype,
+    /// A class is properly above itself.
+    SupertypeCycle,
+    /// No top-level `main` has no parameters and the result `Unit`.
+    NoMain,
+    /// A modifier does not fit its declaration, or stands there a second time.
+    Modifier,
+    /// A declaration has a body that it may not have, or lacks one.
+    Body,
+    /// A declaration has no written type and none can be read off.
+    NoType,
+    /// A member has a name that no class may declare.
+    ReservedMember,
+    /// A member does not fit what it overrides, or overrides nothing.
+    Override,
+    /// The members that a class inherits under one name do not fit.
+    Conflict,
+    /// A class that is not abstract has a member without an implementation.
+    AbstractMember,
 }
 
 impl Rule {
@@ -33,6 +65,18 @@ impl Rule {
             Rule::DuplicateLocal => "DUPLICATE_LOCAL",
             Rule::Unassigned => "UNASSIGNED",
             Rule::ValTwice => "VAL_TWICE",
+            Rule::Duplicate => "DUPLICATE",
+            Rule::UnknownType => "UNKNOWN_TYPE",
+            Rule::Supertype => "SUPERTYPE",
+            Rule::SupertypeCycle => "SUPERTYPE_CYCLE",
+            Rule::NoMain => "NO_MAIN",
+            Rule::Modifier => "MODIFIER",
+            Rule::Body => "BODY",
+            Rule::NoType => "NO_TYPE",
+            Rule::ReservedMember => "RESERVED_MEMBER",
+            Rule::Override => "OVERRIDE",
+            Rule::Conflict => "CONFLICT",
+            Rule::AbstractMember => "ABSTRACT_MEMBER",
         }
     }
 
@@ -47,13 +91,94 @@ impl Rule {
             Rule::DuplicateLocal => "name is declared already",
             Rule::Unassigned => "variable may be unassigned",
             Rule::ValTwice => "val may be assigned twice",
+            Rule::Duplicate => "name is declared already",
+            Rule::UnknownType => "unknown type",
+            Rule::Supertype => "supertype does not fit",
+            Rule::SupertypeCycle => "class is its own supertype",
+            Rule::NoMain => "no function main without parameters",
+            Rule::Modifier => "modifier does not fit",
+            Rule::Body => "body does not fit",
+            Rule::NoType => "type must be written",
+            Rule::ReservedMember => "member name is reserved",
+            Rule::Override => "override does not fit",
+            Rule::Conflict => "inherited members conflict",
+            Rule::AbstractMember => "abstract member is not implemented",
         }
     }
 }
 
-/// A violated rule, and the span that names it.
-#[derive(Clone, Copy, Debug, PartialEq, Eq)]
+/// A violated rule, and the span that names it. Findings are ordered by start, by end, and then by the bytes of the code.
+#[derive(Clone, Copy, Debug)]
 pub struct Finding {
     pub rule: Rule,
     pub span: Span,
+}
+
+impl PartialEq for Finding {
+    ghost eq = { same_finding };
+
+    ghost laws = { Prim.search (comparing, rules) depth 9 };
+
+    fn eq(&self, other: &Finding) -> bool {
+        self.span.start == other.span.start
+            && self.span.end == other.span.end
+            && self.rule.code() == other.rule.code()
+    }
+}
+
+impl Eq for Finding {
+    ghost laws = { Prim.search (comparing, rules) depth 9 };
+}
+
+impl Ord for Finding {
+    ghost cmp = { by_place };
+
+    ghost total = { Prim.search (comparing, rules) depth 9 };
+
+    ghost matches_partial_cmp = { Prim.search (comparing, rules) depth 9 };
+
+    ghost matches_eq = { Prim.search (comparing, rules) depth 9 };
+
+    fn cmp(&self, other: &Finding) -> Ordering {
+        let start = self.span.start.cmp(&other.span.start);
+        let end = self.span.end.cmp(&other.span.end);
+        start.then(end.then(self.rule.code().cmp(other.rule.code())))
+    }
+}
+
+impl PartialOrd for Finding {
+    ghost partial_cmp = { as_partial_cmp by_place };
+
+    ghost laws = { partial_order_from_own_ties (Prim.search (comparing, rules) depth 9) (Prim.search (comparing, rules) depth 9) };
+
+    fn partial_cmp(&self, other: &Finding) -> Option<Ordering> {
+        Some(self.cmp(other))
+    }
+}
+
+/// Findings. Clauses see their list.
+pub type Findings = Items<Finding>;
+
+/// The findings sorted by start, end and code, none twice. It takes no memory.
+pub fn in_order(found: Vec<Finding>) -> Findings
+    ensures { AreFindings (Contains found.items) result }
+{
+    let mut found = found;
+    found.sort_unstable();
+    found.dedup();
+    Items::from_vec(found)
+}
+
+/// Why a phase gives no result: rules are violated, or there is no memory.
+#[derive(Drop)]
+pub enum PhaseFault {
+    /// All violated rules of the phase, in order. There is at least one.
+    Findings(Findings),
+    NoMemory,
+}
+
+impl From<NoMemory> for PhaseFault {
+    fn from(_error: NoMemory) -> PhaseFault {
+        PhaseFault::NoMemory
+    }
 }

@@ -1,0 +1,6 @@
+pub mod CodeLemmas
+pub mod FindingLemmas
+pub mod ListLemmas
+pub mod ClassLemmas
+pub mod SupersLemmas
+pub mod MemberLemmas
