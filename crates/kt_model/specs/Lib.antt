@@ -12,3 +12,6 @@ pub mod Subtypes
 pub mod Members
 pub mod Settled
 pub mod TopNames
+pub mod NameUses
+pub mod BodyTrees
+pub mod ControlFlow

@@ -5,5 +5,7 @@
 
 pub mod class_table;
 pub mod finding;
+pub mod graph;
 pub mod kinds;
 pub mod top_names;
+pub mod uses;
