@@ -4,3 +4,4 @@ pub mod ListLemmas
 pub mod ClassLemmas
 pub mod SupersLemmas
 pub mod MemberLemmas
+pub mod UseLemmas

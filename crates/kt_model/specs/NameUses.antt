@@ -1,5 +1,5 @@
 -- What the names of a file stand for, as the graph of a body looks at it.
-use Rattle.std.specs.Prelude.{ℕ, Bool, true, false, not, List, Option, Some, None, find, ◌==◌, slice_get, option_and_then}
+use Rattle.std.specs.Prelude.{ℕ, Bool, true, false, not, List, Option, Some, None, find, ◌==◌, [], slice_get, unwrap_or}
 use Rattle.kt_model.specs.declared.uses.Declaration.{Declaration}
 use Rattle.kt_model.specs.declared.uses.DeclarationKind.TheVariants as kind
 use Rattle.kt_model.specs.declared.uses.UseRow.{UseRow}
@@ -32,3 +32,7 @@ named_in u None = named.Other
 
 unfoldable pub named_at : Resolved → ℕ → Named
 named_at u tree = named_in u (find (λ row. row.tree == tree) u.rows)
+
+-- the declarations of a function's parameters
+abbrev pub parameters_at : Resolved → ℕ → List ℕ
+parameters_at u f = unwrap_or (slice_get u.parameters f) []

@@ -1,7 +1,7 @@
 //! What the names of a file stand for.
-ghost use Rattle.std.specs.Prelude.{◌≡◌, map};
+ghost use Rattle.std.specs.Prelude.{◌≡◌, ◌==◌, map, find, slice_get};
 ghost use Rattle.std.specs.List.Sorted.{IsStrictlyIncreasing};
-ghost use Rattle.kt_model.specs.NameUses.{Resolved, named_at};
+ghost use Rattle.kt_model.specs.NameUses.{named_at, named_if, parameters_at};
 
 use crate::class_table::{ClassTable, Member, Numbers};
 use kt_tree::Span;
@@ -72,6 +72,73 @@ impl Model for Uses {
     ghost view = { λ u. record { declared = u.declarations; rows = u.uses; parameters = u.parameters } };
 
     ghost invariant = { λ u. IsStrictlyIncreasing (map (λ row. row.tree) u.uses) };
+}
+
+/// The row of a tree, by halving the rows.
+fn row_of(rows: &[UseRow], tree: u32) -> Option<UseRow>
+    requires { IsStrictlyIncreasing (map (λ row. row.tree) rows.now) }
+    ensures { result ≡ find (λ row. row.tree == tree) rows.now }
+{
+    match rows.binary_search_by_key(&tree, |row| row.tree) {
+        Ok(place) => Some(rows[place]),
+        Err(_) => None,
+    }
+}
+
+/// What a declaration at a place is to a name.
+fn named_by(declarations: &[Declaration], place: u32) -> Named
+    ensures { result ≡ named_if place (slice_get declarations.now place) }
+{
+    match declarations.get(place as usize) {
+        Some(declared) => match declared.kind {
+            DeclarationKind::Local | DeclarationKind::Parameter => {
+                Named::Variable(place, !declared.is_var)
+            }
+            DeclarationKind::Function(f) => Named::Function(f, !declared.is_nothing),
+            DeclarationKind::BuiltIn => Named::BuiltIn(declared.name, !declared.is_nothing),
+            DeclarationKind::Member(_) | DeclarationKind::Class(_) => Named::Other,
+        },
+        None => Named::Other,
+    }
+}
+
+impl Uses {
+    /// What the names of a file stand for, by these declarations, rows that rise by tree, and the declarations of each function's parameters.
+    pub fn new(
+        declarations: Items<Declaration>,
+        uses: Items<UseRow>,
+        parameters: Items<Numbers>,
+    ) -> Uses
+        requires { IsStrictlyIncreasing (map (λ row. row.tree) uses) }
+        ensures { result ≡ record { declared = declarations; rows = uses; parameters = parameters } }
+    {
+        Uses {
+            declarations,
+            uses,
+            parameters,
+        }
+    }
+
+    /// What the name in the tree with this number stands for.
+    #[tactic(auto, unfolding(crate::specs::NameUses::named_at))]
+    pub fn named(&self, tree: u32) -> Named
+        ensures { result ≡ named_at self.now tree }
+    {
+        match row_of(self.uses.as_slice(), tree) {
+            Some(row) => named_by(self.declarations.as_slice(), row.declaration),
+            None => Named::Other,
+        }
+    }
+
+    /// The declarations of a function's parameters, by its place among the file's functions; none where there is no such function.
+    pub fn parameters(&self, function: u32) -> &[u32]
+        ensures { result.now ≡ parameters_at self.now function }
+    {
+        match self.parameters.as_slice().get(function as usize) {
+            Some(numbers) => numbers.as_slice(),
+            None => &[],
+        }
+    }
 }
 
 /// Whose body a body is: a function's by its place among the file's functions, a member's or a getter's by its place among all members, a class's by its number.
