@@ -15,3 +15,4 @@ pub mod TopNames
 pub mod NameUses
 pub mod BodyTrees
 pub mod ControlFlow
+pub mod Bodies
