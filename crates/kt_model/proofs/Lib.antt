@@ -5,3 +5,4 @@ pub mod ClassLemmas
 pub mod SupersLemmas
 pub mod MemberLemmas
 pub mod UseLemmas
+pub mod BodyFolds

@@ -93,10 +93,13 @@ abbrev pub assume : ℕ → Tree → Bool → Node
 assume copy t true = node (number t) tag.Assume (2 * copy) (effect.Assume (facts_if t true) ∷ [])
 assume copy t false = node (number t) tag.Assume (2 * copy + 1) (effect.Assume (facts_if t false) ∷ [])
 
--- a tree's `out`, and where it is a condition the nodes that assume its outcome
+-- `out`, and where its tree is a condition the nodes that assume its outcome
+abbrev pub last_nodes : Bool → (out if_true if_false : Node) → List Node
+last_nodes true out if_true if_false = out ∷ if_true ∷ if_false ∷ []
+last_nodes false out if_true if_false = out ∷ []
+
 abbrev pub leave_nodes : Bool → ℕ → Tree → List Node
-leave_nodes true copy t = out_of copy t ∷ assume copy t true ∷ assume copy t false ∷ []
-leave_nodes false copy t = out_of copy t ∷ []
+leave_nodes branching copy t = last_nodes branching (out_of copy t) (assume copy t true) (assume copy t false)
 
 -- The nodes of a tree, which may be a condition, in a copy; those of parts, and those of trees one behind another.
 unfoldable mutual
@@ -162,29 +165,32 @@ if_returns true n = n ∷ []
 if_returns false n = []
 
 -- from a tree's `out` on
+abbrev pub last_edges : FlowContext → (out if_true if_false : Node) → Exits → List Edge
+last_edges context out if_true if_false (Then next) = on context out next
+last_edges context out if_true if_false (Branch on_true on_false) =
+    on context out (if_true ∷ if_false ∷ []) ++ (on context if_true on_true ++ on context if_false on_false)
+
 abbrev pub leave_edges : FlowContext → Tree → Exits → List Edge
-leave_edges context t (Then next) = on context (out_of context.copy t) next
-leave_edges context t (Branch on_true on_false) =
-    on context (out_of context.copy t) (assume context.copy t true ∷ assume context.copy t false ∷ [])
-      ++ (on context (assume context.copy t true) on_true ++ on context (assume context.copy t false) on_false)
+leave_edges context t exits =
+    last_edges context (out_of context.copy t) (assume context.copy t true) (assume context.copy t false) exits
 
--- `!`, `&&` and `||`: where their outcomes lead, `out` where they are no condition; and from `out` on
-abbrev pub on_true_of : FlowContext → Tree → Exits → List Node
-on_true_of context t (Then next) = out_of context.copy t ∷ []
-on_true_of context t (Branch on_true on_false) = on_true
+-- Parentheses, `!`, `&&` and `||`: where their outcomes lead, which is `out` where they are no condition; and from `out` on, which has no edge where they are
+-- one.
+abbrev pub on_true_of : Node → Exits → List Node
+on_true_of out (Then next) = out ∷ []
+on_true_of out (Branch on_true on_false) = on_true
 
-abbrev pub on_false_of : FlowContext → Tree → Exits → List Node
-on_false_of context t (Then next) = out_of context.copy t ∷ []
-on_false_of context t (Branch on_true on_false) = on_false
+abbrev pub on_false_of : Node → Exits → List Node
+on_false_of out (Then next) = out ∷ []
+on_false_of out (Branch on_true on_false) = on_false
 
-abbrev pub test_edges : FlowContext → Tree → Exits → List Edge
-test_edges context t (Then next) = on context (out_of context.copy t) next
-test_edges context t (Branch on_true on_false) = []
+abbrev pub inside_of : Node → Exits → Exits
+inside_of out (Then next) = Then (out ∷ [])
+inside_of out (Branch on_true on_false) = Branch on_true on_false
 
--- where what stands in parentheses leads: past them where it is a condition
-abbrev pub inside_of : FlowContext → Tree → Exits → Exits
-inside_of context t (Then next) = Then (out_of context.copy t ∷ [])
-inside_of context t (Branch on_true on_false) = Branch on_true on_false
+abbrev pub test_edges : FlowContext → Node → Exits → List Edge
+test_edges context out (Then next) = on context out next
+test_edges context out (Branch on_true on_false) = []
 
 -- where a tree's `in` leads
 abbrev pub enter : FlowContext → Tree → List Node → List Edge
@@ -201,21 +207,21 @@ unfoldable mutual
       let t = Name' n at x in enter context t (out_of context.copy t ∷ []) ++ leave_edges context t exits
   edges context exits (Paren' n e) =
       let t = Paren' n e in
-      enter context t (in_of context.copy e ∷ []) ++ (edges context (inside_of context t exits) e ++ test_edges context t exits)
+      enter context t (in_of context.copy e ∷ []) ++ (edges context (inside_of (out_of context.copy t) exits) e ++ test_edges context (out_of context.copy t) exits)
   edges context exits (Not' n e) =
       let t = Not' n e in
       enter context t (in_of context.copy e ∷ [])
-        ++ (edges context (Branch (on_false_of context t exits) (on_true_of context t exits)) e ++ test_edges context t exits)
+        ++ (edges context (Branch (on_false_of (out_of context.copy t) exits) (on_true_of (out_of context.copy t) exits)) e ++ test_edges context (out_of context.copy t) exits)
   edges context exits (And' n a b) =
       let t = And' n a b in
       enter context t (in_of context.copy a ∷ [])
-        ++ (edges context (Branch (in_of context.copy b ∷ []) (on_false_of context t exits)) a
-          ++ (edges context (Branch (on_true_of context t exits) (on_false_of context t exits)) b ++ test_edges context t exits))
+        ++ (edges context (Branch (in_of context.copy b ∷ []) (on_false_of (out_of context.copy t) exits)) a
+          ++ (edges context (Branch (on_true_of (out_of context.copy t) exits) (on_false_of (out_of context.copy t) exits)) b ++ test_edges context (out_of context.copy t) exits))
   edges context exits (Or' n a b) =
       let t = Or' n a b in
       enter context t (in_of context.copy a ∷ [])
-        ++ (edges context (Branch (on_true_of context t exits) (in_of context.copy b ∷ [])) a
-          ++ (edges context (Branch (on_true_of context t exits) (on_false_of context t exits)) b ++ test_edges context t exits))
+        ++ (edges context (Branch (on_true_of (out_of context.copy t) exits) (in_of context.copy b ∷ [])) a
+          ++ (edges context (Branch (on_true_of (out_of context.copy t) exits) (on_false_of (out_of context.copy t) exits)) b ++ test_edges context (out_of context.copy t) exits))
   edges context exits (If' n c a b) =
       let t = If' n c a b in
       let out = out_of context.copy t ∷ [] in

@@ -1,0 +1,57 @@
+-- A graph under construction, read as nodes and as edges between nodes.
+--
+-- Numbers are decoded in the whole list of nodes, which ends with those that are there. So an edge means the same pair of nodes before and after each
+-- addition.
+use Rattle.std.specs.Prelude.{◌≡◌, ℕ, ◌+◌, ◌*◌, List, [], ◌∷◌, ◌++◌, map, length, reverse, Option, Some, None, Bool, true, false}
+use Rattle.kt_model.specs.declared.graph.EdgeRow.{EdgeRow}
+use Rattle.kt_model.specs.declared.graph.FlowEffect.TheVariants as effect
+use Rattle.kt_model.specs.declared.graph.Tag.TheVariants as tag
+use Rattle.kt_model.specs.BodyTrees.{Tree, Trees}
+use Rattle.kt_model.specs.ControlFlow as flow
+use Rattle.kt_model.specs.ControlFlow.{Node, Edge, Effects, node, on, nodes, all_nodes, edges, all_edges, in_of, entry_of}
+use Rattle.kt_model.specs.Bodies.{node_at, edges_at}
+use Rattle.kt_graph.specs.declared.building.Builder.{Builder}
+use Rattle.kt_graph.specs.declared.building.Exits.{Exits}
+use Rattle.kt_graph.specs.declared.building.Exits.TheVariants as exits
+use Rattle.kt_graph.specs.declared.building.FlowContext.{FlowContext}
+
+-- a list of nodes that ends with those of a graph, behind those that are still to come
+pub record Ends (b : Builder) (ns : List Node) : Type 0 where
+  pub rest : List Node
+  pub is : ns ≡ rest ++ reverse b.nodes.items
+  pub ahead : length rest ≡ b.ahead
+
+-- What was added in front. The edges are those given, whatever nodes come before.
+pub record Grows (old new : Builder) (nodes : List Node) (edges : List Node → List Edge) : Type 0 where
+  pub has_nodes : reverse new.nodes.items ≡ nodes ++ reverse old.nodes.items
+  pub has_room : old.ahead ≡ new.ahead + length nodes
+  pub has_edges : (ns : List Node) → Ends new ns → edges_at ns (reverse new.edges.items) ≡ edges ns ++ edges_at ns (reverse old.edges.items)
+
+-- The same, and what was found is told of the nodes.
+pub record Enters (old new : Builder) (nodes : List Node) (edges : List Node → List Edge) (Found : List Node → Type 0) : Type 0 where
+  pub grows : Grows old new nodes edges
+  pub is_found : (ns : List Node) → Ends new ns → Found ns
+
+abbrev pub place_at : List Node → Option ℕ → List Node
+place_at ns None = []
+place_at ns (Some i) = node_at ns i ∷ []
+
+abbrev pub context_at : List Node → FlowContext → flow.FlowContext
+context_at ns c = record {
+  jumps = record { returns = place_at ns c.returns };
+  always = map (node_at ns) c.always.now;
+  copy = c.copy;
+}
+
+abbrev pub exits_at : List Node → Exits → flow.Exits
+exits_at ns (exits.Then next) = flow.Then (place_at ns next)
+exits_at ns (exits.Branch on_true on_false) = flow.Branch (place_at ns on_true) (place_at ns on_false)
+
+abbrev pub is_branch : Exits → Bool
+is_branch (exits.Then next) = false
+is_branch (exits.Branch on_true on_false) = true
+
+-- one node was added that leads to a place
+abbrev pub StepsTo : Builder → Builder → Node → FlowContext → Option ℕ → ℕ → Type 0
+StepsTo old new x context to n =
+    Enters old new (x ∷ []) (λ ns. on (context_at ns context) x (place_at ns to)) (λ ns. node_at ns n ≡ x)
