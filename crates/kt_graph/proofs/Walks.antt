@@ -123,3 +123,17 @@ walk_throw p w q = record { tree_walked = whole (next (next p w.tree_walked) q) 
 pub walk_shut : {a b : Builder} {n r : ℕ} {c : FlowContext} {ex : Exits} → StepsTo a b (in_at n c.copy []) c None r → WalksTree a b (Shut' n) c ex r
 unfolding nodes edges
 walk_shut q = record { tree_walked = whole q refl (λ ns e. refl) (λ ns e. e) }
+
+-- ---- operations with few parts
+
+pub walk_leaf : {a b d : Builder} {n o r : ℕ} {c : FlowContext} {ex : Exits} → Leaves a b n [] c ex o → StepsTo b d (in_at n c.copy []) c (Some o) r → (operation : Operation) → returns_of operation ≡ true → WalksTree a d (Operation' n operation Empty') c ex r
+walk_leaf {b = b} {o = o} {c = c} p q operation e =
+    walk_operation operation p (same_next (sym (ap (λ t. place_if t o) e)) (walk_empty b c (Some o))) q
+
+pub walk_unary : {a b d f : Builder} {t : Tree} {n o m r : ℕ} {c : FlowContext} {ex : Exits} → Leaves a b n [] c ex o → WalksTree b d t c (exits.Then (Some o)) m → StepsTo d f (in_at n c.copy []) c (Some m) r → (operation : Operation) → returns_of operation ≡ true → WalksTree a f (Operation' n operation (First' t Empty')) c ex r
+walk_unary {o = o} p w q operation e =
+    walk_operation operation p (same_next (sym (ap (λ t. place_if t o) e)) (walk_one w)) q
+
+pub walk_binary : {a b d f g : Builder} {t u : Tree} {n o k m r : ℕ} {c : FlowContext} {ex : Exits} → Leaves a b n [] c ex o → WalksTree b d u c (exits.Then (Some o)) k → WalksTree d f t c (exits.Then (Some k)) m → StepsTo f g (in_at n c.copy []) c (Some m) r → (operation : Operation) → returns_of operation ≡ true → WalksTree a g (Operation' n operation (First' t (First' u Empty'))) c ex r
+walk_binary {o = o} p v w q operation e =
+    walk_operation operation p (same_next (sym (ap (λ t. place_if t o) e)) (walk_first (walk_one v) w)) q

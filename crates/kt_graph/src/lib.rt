@@ -4,3 +4,6 @@
 
 mod building;
 mod leaving;
+mod simple;
+mod statements;
+mod walk;

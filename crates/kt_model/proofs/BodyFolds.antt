@@ -1,5 +1,5 @@
 -- What each tree of a file is as plain data.
-use Rattle.std.proofs.Common.{◌≡◌, ◌≢◌, ℕ, Bool, true, false, List, [], ◌∷◌, map, Option, Some, None, refl, sym, ap, ◌∙◌, subst}
+use Rattle.std.proofs.Common.{◌≡◌, ◌≢◌, ℕ, Bool, true, false, List, [], ◌∷◌, map, Option, Some, None, option_map, refl, sym, ap, ◌∙◌, subst}
 use Rattle.kt_tree.specs.declared.token.Span.{Span}
 use Rattle.kt_tree.specs.declared.ast.part.Ident.{Ident}
 use Rattle.kt_tree.specs.declared.ast.part.TypeRef.{TypeRef}
@@ -221,3 +221,95 @@ piece_inserted uses x = ap (piece uses) (sym (v.rolls-Inserted x)) ∙ fold-roll
 pub block_list : (uses : ℕ → Named) (x : Block) → block_trees uses x ≡ listed (map (stmt_tree uses) (out-Block x).statements)
 unfolding seen seen_kind stmt_tree block_trees branch_trees piece
 block_list uses x = fold_out-Block Trees (Unit {0}) SeenKind Tree Piece Trees (Unit {0}) Seen (Unit {0}) (Unit {0}) (Unit {0}) branch_step nothing (kind_step uses) (stmt_step uses) piece_step block_step nothing expr_step nothing nothing nothing x
+
+-- ---- whatever may not be written
+
+-- `if`, with or without `else`
+pub kind_if_any : (uses : ℕ → Named) (c : Expr) (x : Branch) (y : Option Branch) → seen_kind uses (e.If c x y) ≡ plain (λ n at. If' n (expr_tree uses c) (branch_trees uses x) (otherwise (option_map (branch_trees uses) y)))
+kind_if_any uses c x (Some y) = kind_if uses c x y
+kind_if_any uses c x None = kind_if_alone uses c x
+
+-- `return`, with or without a value
+pub kind_return_any : (uses : ℕ → Named) (w : Option Expr) → seen_kind uses (e.Return None w) ≡ plain (λ n at. Return' n (seen_optional (option_map (seen uses) w)))
+kind_return_any uses (Some x) = kind_return uses x
+kind_return_any uses None = kind_return_alone uses
+
+-- `return@`, with or without a value
+pub kind_return_at_any : (uses : ℕ → Named) (l : Ident) (w : Option Expr) → seen_kind uses (e.Return (Some l) w) ≡ shut
+kind_return_at_any uses l (Some x) = kind_return_at uses l x
+kind_return_at_any uses l None = kind_return_at_alone uses l
+
+-- a local, with or without a value
+pub stmt_local_any : (uses : ℕ → Named) (n : ℕ) (at : Span) (m : Bool) (i : Ident) (w : Option TypeRef) (x : Option Expr) → stmt_tree uses (s.Local n at m i w x) ≡ local_tree (uses n) n i.span (option_map (seen uses) x)
+stmt_local_any uses n at m i w (Some x) = stmt_local uses n at m i w x
+stmt_local_any uses n at m i w None = stmt_local_alone uses n at m i w
+
+-- an assignment, with or without a value
+pub stmt_assign_any : (uses : ℕ → Named) (n : ℕ) (at : Span) (t : Expr) (a : Assignment) (x : Option Expr) → stmt_tree uses (s.Assign n at t a x) ≡ assign_tree (uses n) n (seen uses t).name a (option_map (seen uses) x)
+stmt_assign_any uses n at t a (Some x) = stmt_assign uses n at t a x
+stmt_assign_any uses n at t a None = stmt_assign_alone uses n at t a
+
+-- ---- what is not open
+
+abbrev Layer : Type 0
+Layer = ExprKind-F Branch Condition ExprKind Stmt StringPart Block Catch Expr Lambda Subject WhenBranch
+
+kind_other_at : (uses : ℕ → Named) (l : Layer) → ((k : ℕ) → v.roll-ExprKind l ≢ e.Int k) → ((t : Bool) → v.roll-ExprKind l ≢ e.Bool t) → (v.roll-ExprKind l ≢ e.Null) → ((x : ℕ) → v.roll-ExprKind l ≢ e.Name x) → ((ps : List StringPart) → v.roll-ExprKind l ≢ e.Template ps) → ((x : Expr) → v.roll-ExprKind l ≢ e.Paren x) → ((f : Ident) (xs : List Expr) (l' : Option Lambda) → v.roll-ExprKind l ≢ e.Call f xs l') → ((o : Sign) (x : Expr) → v.roll-ExprKind l ≢ e.Sign o x) → ((x : Expr) → v.roll-ExprKind l ≢ e.Not x) → ((x : Expr) (y : Expr) → v.roll-ExprKind l ≢ e.Sum x y) → ((o : Arithmetic) (x : Expr) (y : Expr) → v.roll-ExprKind l ≢ e.Arithmetic o x y) → ((o : Comparison) (x : Expr) (y : Expr) → v.roll-ExprKind l ≢ e.Compare o x y) → ((o : Equality) (x : Expr) (y : Expr) → v.roll-ExprKind l ≢ e.Equal o x y) → ((x : Expr) (y : Expr) → v.roll-ExprKind l ≢ e.And x y) → ((x : Expr) (y : Expr) → v.roll-ExprKind l ≢ e.Or x y) → ((c : Expr) (x : Branch) (y : Option Branch) → v.roll-ExprKind l ≢ e.If c x y) → ((l' : Option Ident) (w : Option Expr) → v.roll-ExprKind l ≢ e.Return l' w) → ((x : Expr) → v.roll-ExprKind l ≢ e.Throw x) → seen_kind uses (v.roll-ExprKind l) ≡ shut
+unfolding seen seen_kind stmt_tree block_trees branch_trees piece
+kind_other_at uses (ExprKind-F.Int k) h0 h1 h2 h3 h4 h5 h6 h7 h8 h9 h10 h11 h12 h13 h14 h15 h16 h17 = absurd (h0 k (v.rolls-Int k))
+kind_other_at uses (ExprKind-F.Bool t) h0 h1 h2 h3 h4 h5 h6 h7 h8 h9 h10 h11 h12 h13 h14 h15 h16 h17 = absurd (h1 t (v.rolls-Bool t))
+kind_other_at uses ExprKind-F.Null h0 h1 h2 h3 h4 h5 h6 h7 h8 h9 h10 h11 h12 h13 h14 h15 h16 h17 = absurd (h2 v.rolls-Null)
+kind_other_at uses (ExprKind-F.Name x) h0 h1 h2 h3 h4 h5 h6 h7 h8 h9 h10 h11 h12 h13 h14 h15 h16 h17 = absurd (h3 x (v.rolls-Name x))
+kind_other_at uses (ExprKind-F.Template ps) h0 h1 h2 h3 h4 h5 h6 h7 h8 h9 h10 h11 h12 h13 h14 h15 h16 h17 = absurd (h4 ps (v.rolls-Template ps))
+kind_other_at uses (ExprKind-F.Paren x) h0 h1 h2 h3 h4 h5 h6 h7 h8 h9 h10 h11 h12 h13 h14 h15 h16 h17 = absurd (h5 x (v.rolls-Paren x))
+kind_other_at uses (ExprKind-F.Call f xs l) h0 h1 h2 h3 h4 h5 h6 h7 h8 h9 h10 h11 h12 h13 h14 h15 h16 h17 = absurd (h6 f xs l (v.rolls-Call f xs l))
+kind_other_at uses (ExprKind-F.Sign o x) h0 h1 h2 h3 h4 h5 h6 h7 h8 h9 h10 h11 h12 h13 h14 h15 h16 h17 = absurd (h7 o x (v.rolls-Sign o x))
+kind_other_at uses (ExprKind-F.Not x) h0 h1 h2 h3 h4 h5 h6 h7 h8 h9 h10 h11 h12 h13 h14 h15 h16 h17 = absurd (h8 x (v.rolls-Not x))
+kind_other_at uses (ExprKind-F.Sum x y) h0 h1 h2 h3 h4 h5 h6 h7 h8 h9 h10 h11 h12 h13 h14 h15 h16 h17 = absurd (h9 x y (v.rolls-Sum x y))
+kind_other_at uses (ExprKind-F.Arithmetic o x y) h0 h1 h2 h3 h4 h5 h6 h7 h8 h9 h10 h11 h12 h13 h14 h15 h16 h17 = absurd (h10 o x y (v.rolls-Arithmetic o x y))
+kind_other_at uses (ExprKind-F.Compare o x y) h0 h1 h2 h3 h4 h5 h6 h7 h8 h9 h10 h11 h12 h13 h14 h15 h16 h17 = absurd (h11 o x y (v.rolls-Compare o x y))
+kind_other_at uses (ExprKind-F.Equal o x y) h0 h1 h2 h3 h4 h5 h6 h7 h8 h9 h10 h11 h12 h13 h14 h15 h16 h17 = absurd (h12 o x y (v.rolls-Equal o x y))
+kind_other_at uses (ExprKind-F.And x y) h0 h1 h2 h3 h4 h5 h6 h7 h8 h9 h10 h11 h12 h13 h14 h15 h16 h17 = absurd (h13 x y (v.rolls-And x y))
+kind_other_at uses (ExprKind-F.Or x y) h0 h1 h2 h3 h4 h5 h6 h7 h8 h9 h10 h11 h12 h13 h14 h15 h16 h17 = absurd (h14 x y (v.rolls-Or x y))
+kind_other_at uses (ExprKind-F.If c x y) h0 h1 h2 h3 h4 h5 h6 h7 h8 h9 h10 h11 h12 h13 h14 h15 h16 h17 = absurd (h15 c x y (v.rolls-If c x y))
+kind_other_at uses (ExprKind-F.Return l w) h0 h1 h2 h3 h4 h5 h6 h7 h8 h9 h10 h11 h12 h13 h14 h15 h16 h17 = absurd (h16 l w (v.rolls-Return l w))
+kind_other_at uses (ExprKind-F.Throw x) h0 h1 h2 h3 h4 h5 h6 h7 h8 h9 h10 h11 h12 h13 h14 h15 h16 h17 = absurd (h17 x (v.rolls-Throw x))
+kind_other_at uses l h0 h1 h2 h3 h4 h5 h6 h7 h8 h9 h10 h11 h12 h13 h14 h15 h16 h17 = fold-roll-ExprKind Trees (Unit {0}) SeenKind Tree Piece Trees (Unit {0}) Seen (Unit {0}) (Unit {0}) (Unit {0}) branch_step nothing (kind_step uses) (stmt_step uses) piece_step block_step nothing expr_step nothing nothing nothing l
+
+-- a kind that is none of the open ones
+pub kind_other : (uses : ℕ → Named) (k' : ExprKind) → ((k : ℕ) → k' ≢ e.Int k) → ((t : Bool) → k' ≢ e.Bool t) → (k' ≢ e.Null) → ((x : ℕ) → k' ≢ e.Name x) → ((ps : List StringPart) → k' ≢ e.Template ps) → ((x : Expr) → k' ≢ e.Paren x) → ((f : Ident) (xs : List Expr) (l : Option Lambda) → k' ≢ e.Call f xs l) → ((o : Sign) (x : Expr) → k' ≢ e.Sign o x) → ((x : Expr) → k' ≢ e.Not x) → ((x : Expr) (y : Expr) → k' ≢ e.Sum x y) → ((o : Arithmetic) (x : Expr) (y : Expr) → k' ≢ e.Arithmetic o x y) → ((o : Comparison) (x : Expr) (y : Expr) → k' ≢ e.Compare o x y) → ((o : Equality) (x : Expr) (y : Expr) → k' ≢ e.Equal o x y) → ((x : Expr) (y : Expr) → k' ≢ e.And x y) → ((x : Expr) (y : Expr) → k' ≢ e.Or x y) → ((c : Expr) (x : Branch) (y : Option Branch) → k' ≢ e.If c x y) → ((l : Option Ident) (w : Option Expr) → k' ≢ e.Return l w) → ((x : Expr) → k' ≢ e.Throw x) → seen_kind uses k' ≡ shut
+kind_other uses k' h0 h1 h2 h3 h4 h5 h6 h7 h8 h9 h10 h11 h12 h13 h14 h15 h16 h17 =
+    subst (λ j. seen_kind uses j ≡ shut) (v.roll-out-ExprKind k') (kind_other_at uses (v.out-ExprKind k')
+      (λ k. subst (λ j. j ≢ e.Int k) (sym (v.roll-out-ExprKind k')) (h0 k))
+      (λ t. subst (λ j. j ≢ e.Bool t) (sym (v.roll-out-ExprKind k')) (h1 t))
+      (subst (λ j. j ≢ e.Null) (sym (v.roll-out-ExprKind k')) h2)
+      (λ x. subst (λ j. j ≢ e.Name x) (sym (v.roll-out-ExprKind k')) (h3 x))
+      (λ ps. subst (λ j. j ≢ e.Template ps) (sym (v.roll-out-ExprKind k')) (h4 ps))
+      (λ x. subst (λ j. j ≢ e.Paren x) (sym (v.roll-out-ExprKind k')) (h5 x))
+      (λ f xs l. subst (λ j. j ≢ e.Call f xs l) (sym (v.roll-out-ExprKind k')) (h6 f xs l))
+      (λ o x. subst (λ j. j ≢ e.Sign o x) (sym (v.roll-out-ExprKind k')) (h7 o x))
+      (λ x. subst (λ j. j ≢ e.Not x) (sym (v.roll-out-ExprKind k')) (h8 x))
+      (λ x y. subst (λ j. j ≢ e.Sum x y) (sym (v.roll-out-ExprKind k')) (h9 x y))
+      (λ o x y. subst (λ j. j ≢ e.Arithmetic o x y) (sym (v.roll-out-ExprKind k')) (h10 o x y))
+      (λ o x y. subst (λ j. j ≢ e.Compare o x y) (sym (v.roll-out-ExprKind k')) (h11 o x y))
+      (λ o x y. subst (λ j. j ≢ e.Equal o x y) (sym (v.roll-out-ExprKind k')) (h12 o x y))
+      (λ x y. subst (λ j. j ≢ e.And x y) (sym (v.roll-out-ExprKind k')) (h13 x y))
+      (λ x y. subst (λ j. j ≢ e.Or x y) (sym (v.roll-out-ExprKind k')) (h14 x y))
+      (λ c x y. subst (λ j. j ≢ e.If c x y) (sym (v.roll-out-ExprKind k')) (h15 c x y))
+      (λ l w. subst (λ j. j ≢ e.Return l w) (sym (v.roll-out-ExprKind k')) (h16 l w))
+      (λ x. subst (λ j. j ≢ e.Throw x) (sym (v.roll-out-ExprKind k')) (h17 x)))
+
+not_name_at : (uses : ℕ → Named) (l : Layer) → ((x : ℕ) → v.roll-ExprKind l ≢ e.Name x) → (seen_kind uses (v.roll-ExprKind l)).is_name ≡ false
+unfolding seen seen_kind stmt_tree block_trees branch_trees piece
+not_name_at uses (ExprKind-F.Name x) h = absurd (h x (v.rolls-Name x))
+not_name_at uses (ExprKind-F.Call f xs None) h = ap (λ (g : SeenKind). g.is_name) (fold-roll-ExprKind Trees (Unit {0}) SeenKind Tree Piece Trees (Unit {0}) Seen (Unit {0}) (Unit {0}) (Unit {0}) branch_step nothing (kind_step uses) (stmt_step uses) piece_step block_step nothing expr_step nothing nothing nothing (ExprKind-F.Call f xs None))
+not_name_at uses (ExprKind-F.Call f xs (Some l)) h = ap (λ (g : SeenKind). g.is_name) (fold-roll-ExprKind Trees (Unit {0}) SeenKind Tree Piece Trees (Unit {0}) Seen (Unit {0}) (Unit {0}) (Unit {0}) branch_step nothing (kind_step uses) (stmt_step uses) piece_step block_step nothing expr_step nothing nothing nothing (ExprKind-F.Call f xs (Some l)))
+not_name_at uses (ExprKind-F.Return None w) h = ap (λ (g : SeenKind). g.is_name) (fold-roll-ExprKind Trees (Unit {0}) SeenKind Tree Piece Trees (Unit {0}) Seen (Unit {0}) (Unit {0}) (Unit {0}) branch_step nothing (kind_step uses) (stmt_step uses) piece_step block_step nothing expr_step nothing nothing nothing (ExprKind-F.Return None w))
+not_name_at uses (ExprKind-F.Return (Some l) w) h = ap (λ (g : SeenKind). g.is_name) (fold-roll-ExprKind Trees (Unit {0}) SeenKind Tree Piece Trees (Unit {0}) Seen (Unit {0}) (Unit {0}) (Unit {0}) branch_step nothing (kind_step uses) (stmt_step uses) piece_step block_step nothing expr_step nothing nothing nothing (ExprKind-F.Return (Some l) w))
+not_name_at uses l h = ap (λ (g : SeenKind). g.is_name) (fold-roll-ExprKind Trees (Unit {0}) SeenKind Tree Piece Trees (Unit {0}) Seen (Unit {0}) (Unit {0}) (Unit {0}) branch_step nothing (kind_step uses) (stmt_step uses) piece_step block_step nothing expr_step nothing nothing nothing l)
+
+-- an expression that is no name alone
+pub not_name : (uses : ℕ → Named) (x : Expr) → ((y : ℕ) → x.kind ≢ e.Name y) → (seen uses x).name ≡ None
+not_name uses x h =
+    name_of_kind uses x x.kind (seen_kind uses x.kind) refl refl
+      ∙ ap (λ b. name_span b x.span) (subst (λ j. (seen_kind uses j).is_name ≡ false) (v.roll-out-ExprKind x.kind) (not_name_at uses (v.out-ExprKind x.kind) (λ y. subst (λ j. j ≢ e.Name y) (sym (v.roll-out-ExprKind x.kind)) (h y))))
