@@ -1,9 +1,14 @@
 -- What is added for each kind of tree is its graph.
-use Rattle.std.proofs.Common.{◌≡◌, ℕ, ◌+◌, ◌*◌, List, [], ◌∷◌, ◌++◌, map, Option, Some, None, Bool, true, false, refl, sym, ap, ◌∙◌, subst, append-nil}
+use Rattle.std.proofs.Common.{◌≡◌, ℕ, suc, ◌+◌, ◌*◌, ◌<◌, length, get_or, drop, drop-cons, List, [], ◌∷◌, ◌++◌, map, Option, Some, None, Bool, true, false, refl, sym, ap, ◌∙◌, subst, append-nil}
 use Rattle.kt_tree.specs.declared.token.Span.{Span}
 use Rattle.kt_model.specs.declared.graph.Tag.{Tag}
 use Rattle.kt_model.specs.declared.graph.Known.TheVariants as known
-use Rattle.kt_model.specs.BodyTrees.{Tree, Trees, Operation, Operation', Name', Paren', Not', And', Or', If', Declare', Local', Assign', Compound', Call', Return', Throw', Shut', Empty', First'}
+use Rattle.kt_model.specs.BodyTrees.{Tree, Trees, Operation, Operation', Name', Paren', Not', And', Or', If', Declare', Local', Assign', Compound', Call', Return', Throw', Shut', Empty', First', Piece, Text', Inserted', expr_tree, branch_trees, stmt_tree, piece, seen, seen_trees, inserted_of, listed}
+use Rattle.kt_tree.specs.declared.ast.body.Expr.{Expr}
+use Rattle.kt_tree.specs.declared.ast.body.Branch.{Branch}
+use Rattle.kt_tree.specs.declared.ast.body.Stmt.{Stmt}
+use Rattle.kt_tree.specs.declared.ast.body.StringPart.{StringPart}
+use Rattle.kt_model.specs.declared.uses.Named.{Named}
 use Rattle.kt_model.specs.ControlFlow as flow
 use Rattle.kt_model.specs.ControlFlow.{Node, Edge, Effects, node, on, nodes, all_nodes, edges, all_edges, in_of, entry_of, returns_of, if_returns, reads, declares, assigns, last_nodes, last_edges}
 use Rattle.kt_model.specs.Bodies.{node_at}
@@ -137,3 +142,48 @@ walk_unary {o = o} p w q operation e =
 pub walk_binary : {a b d f g : Builder} {t u : Tree} {n o k m r : ℕ} {c : FlowContext} {ex : Exits} → Leaves a b n [] c ex o → WalksTree b d u c (exits.Then (Some o)) k → WalksTree d f t c (exits.Then (Some k)) m → StepsTo f g (in_at n c.copy []) c (Some m) r → (operation : Operation) → returns_of operation ≡ true → WalksTree a g (Operation' n operation (First' t (First' u Empty'))) c ex r
 walk_binary {o = o} p v w q operation e =
     walk_operation operation p (same_next (sym (ap (λ t. place_if t o) e)) (walk_first (walk_one v) w)) q
+
+-- ---- trees of a file under other names
+
+pub expr_at : (uses : ℕ → Named) {a b : Builder} {x e : Expr} {c : FlowContext} {ex : Exits} {n : ℕ} → x ≡ e → WalksTree a b (expr_tree uses x) c ex n → WalksTree a b (expr_tree uses e) c ex n
+expr_at uses d w = same_tree (ap (expr_tree uses) (sym d)) w
+
+pub branch_at : (uses : ℕ → Named) {a b : Builder} {x e : Branch} {c : FlowContext} {to n : Option ℕ} → x ≡ e → WalksTrees a b (branch_trees uses x) c to n → WalksTrees a b (branch_trees uses e) c to n
+branch_at uses d w = same_trees (ap (branch_trees uses) (sym d)) w
+
+-- ---- trees one behind another, from the last to the first
+
+pub stmts_more : (uses : ℕ → Named) (xs : List Stmt) (i j : ℕ) (x : Stmt) → j < length xs → i ≡ suc j → x ≡ get_or xs j x → listed (map (stmt_tree uses) (drop j xs)) ≡ First' (stmt_tree uses x) (listed (map (stmt_tree uses) (drop i xs)))
+stmts_more uses xs i j x h e is =
+    ap (λ l. listed (map (stmt_tree uses) l)) (drop-cons xs j x h ∙ ap (λ y. y ∷ drop (suc j) xs) (sym is))
+      ∙ ap (λ k. First' (stmt_tree uses x) (listed (map (stmt_tree uses) (drop k xs)))) (sym e)
+
+pub exprs_more : (uses : ℕ → Named) (xs : List Expr) (i j : ℕ) (x : Expr) → j < length xs → i ≡ suc j → x ≡ get_or xs j x → seen_trees (map (seen uses) (drop j xs)) ≡ First' (expr_tree uses x) (seen_trees (map (seen uses) (drop i xs)))
+exprs_more uses xs i j x h e is =
+    ap (λ l. seen_trees (map (seen uses) l)) (drop-cons xs j x h ∙ ap (λ y. y ∷ drop (suc j) xs) (sym is))
+      ∙ ap (λ k. First' (expr_tree uses x) (seen_trees (map (seen uses) (drop k xs)))) (sym e)
+
+pub pieces_more : (uses : ℕ → Named) (xs : List StringPart) (i j : ℕ) (x : StringPart) → j < length xs → i ≡ suc j → x ≡ get_or xs j x → inserted_of (map (piece uses) (drop j xs)) ≡ inserted_of (piece uses x ∷ map (piece uses) (drop i xs))
+pieces_more uses xs i j x h e is =
+    ap (λ l. inserted_of (map (piece uses) l)) (drop-cons xs j x h ∙ ap (λ y. y ∷ drop (suc j) xs) (sym is))
+      ∙ ap (λ k. inserted_of (piece uses x ∷ map (piece uses) (drop k xs))) (sym e)
+
+-- what nothing adds
+pub walk_again : {a b d : Builder} {ts : Trees} {to m k : Option ℕ} {c : FlowContext} → WalksTrees a b ts c to m → WalksTrees b d Empty' c m k → WalksTrees a d ts c to k
+unfolding nodes edges
+walk_again v w = record { trees_walked = whole (next v.trees_walked w.trees_walked) refl (λ ns e. refl) (λ ns e. cc) }
+
+first_again : {a b d : Builder} {t : Tree} {ts : Trees} {to m k : Option ℕ} {c : FlowContext} → WalksTrees a b ts c to m → WalksTrees b d (First' t Empty') c m k → WalksTrees a d (First' t ts) c to k
+unfolding nodes edges
+first_again {t = t} {ts = ts} {to = to} {m = m} {c = c} v w = record {
+  trees_walked = whole (next v.trees_walked w.trees_walked)
+    (ap (λ l. l ++ all_nodes c.copy ts) (append-nil (nodes false c.copy t)))
+    (λ ns e.
+      ap (λ l. l ++ all_edges (context_at ns c) (place_at ns to) ts) (append-nil (edges (context_at ns c) (flow.Then (place_at ns m)) t))
+        ∙ ap (λ l. edges (context_at ns c) (flow.Then l) t ++ all_edges (context_at ns c) (place_at ns to) ts) e.0)
+    (λ ns e. e.1);
+}
+
+pub walk_piece : {a b d : Builder} (p : Piece) (ps : List Piece) {to m k : Option ℕ} {c : FlowContext} → WalksTrees a b (inserted_of ps) c to m → WalksTrees b d (inserted_of (p ∷ [])) c m k → WalksTrees a d (inserted_of (p ∷ ps)) c to k
+walk_piece (Text' bytes) ps v w = walk_again v w
+walk_piece (Inserted' t) ps v w = first_again v w
