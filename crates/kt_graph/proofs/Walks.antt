@@ -1,5 +1,5 @@
 -- What is added for each kind of tree is its graph.
-use Rattle.std.proofs.Common.{◌≡◌, ℕ, suc, ◌+◌, ◌*◌, ◌<◌, length, get_or, drop, drop-cons, List, [], ◌∷◌, ◌++◌, map, Option, Some, None, Bool, true, false, refl, sym, ap, ◌∙◌, subst, append-nil}
+use Rattle.std.proofs.Common.{◌≡◌, ℕ, suc, ◌+◌, ◌*◌, ◌<◌, length, get_or, drop, drop-cons, List, [], ◌∷◌, ◌++◌, map, Option, Some, None, Bool, true, false, refl, sym, ap, ◌∙◌, subst, append-nil, reverse, arith}
 use Rattle.kt_tree.specs.declared.token.Span.{Span}
 use Rattle.kt_model.specs.declared.graph.Tag.{Tag}
 use Rattle.kt_model.specs.declared.graph.Known.TheVariants as known
@@ -10,9 +10,9 @@ use Rattle.kt_tree.specs.declared.ast.body.Stmt.{Stmt}
 use Rattle.kt_tree.specs.declared.ast.body.StringPart.{StringPart}
 use Rattle.kt_model.specs.declared.uses.Named.{Named}
 use Rattle.kt_model.specs.ControlFlow as flow
-use Rattle.kt_model.specs.ControlFlow.{Node, Edge, Effects, node, on, nodes, all_nodes, edges, all_edges, in_of, entry_of, returns_of, if_returns, reads, declares, assigns, last_nodes, last_edges}
-use Rattle.kt_model.specs.Bodies.{node_at}
-use Rattle.kt_graph.specs.Building.{Ends, Grows, Enters, StepsTo, Tests, Leaves, Encloses, WalksTree, WalksTrees, place_at, context_at, exits_at, is_branch, place_if, in_at, out_at, assume_at}
+use Rattle.kt_model.specs.ControlFlow.{Node, Edge, Effects, node, on, nodes, all_nodes, edges, all_edges, in_of, entry_of, returns_of, if_returns, entry_node, params_node, end_node, in_body, body_nodes, body_edges, reads, declares, assigns, last_nodes, last_edges}
+use Rattle.kt_model.specs.Bodies.{node_at, edge_at, edges_at}
+use Rattle.kt_graph.specs.Building.{Ends, Grows, Enters, StepsTo, Tests, Leaves, Encloses, WalksTree, WalksTrees, place_at, context_at, exits_at, is_branch, place_if, in_at, out_at, assume_at, IsBuilt}
 use Rattle.kt_graph.specs.declared.building.Builder.{Builder}
 use Rattle.kt_graph.specs.declared.building.Exits.{Exits}
 use Rattle.kt_graph.specs.declared.building.Exits.TheVariants as exits
@@ -187,3 +187,42 @@ first_again {t = t} {ts = ts} {to = to} {m = m} {c = c} v w = record {
 pub walk_piece : {a b d : Builder} (p : Piece) (ps : List Piece) {to m k : Option ℕ} {c : FlowContext} → WalksTrees a b (inserted_of ps) c to m → WalksTrees b d (inserted_of (p ∷ [])) c m k → WalksTrees a d (inserted_of (p ∷ ps)) c to k
 walk_piece (Text' bytes) ps v w = walk_again v w
 walk_piece (Inserted' t) ps v w = first_again v w
+
+-- ---- a whole body
+
+-- the edges of a body as they were added
+abbrev body_from : FlowContext → FlowContext → Trees → List ℕ → ℕ → Option ℕ → ℕ → List Node → List Edge
+body_from outside inside ts ps q first o ns =
+    on (context_at ns outside) entry_node (place_at ns (Some q))
+      ++ (on (context_at ns outside) (params_node ps) (place_at ns first) ++ all_edges (context_at ns inside) (place_at ns (Some o)) ts)
+
+-- and as the definition tells them
+named_edges : (outside inside : FlowContext) (ts : Trees) (ps : List ℕ) (q : ℕ) (first : Option ℕ) (o : ℕ) (ns : List Node) → node_at ns o ≡ end_node → place_at ns first ≡ entry_of inside.copy (place_at ns (Some o)) ts → node_at ns q ≡ params_node ps → inside.copy ≡ 0 → context_at ns inside ≡ in_body → context_at ns outside ≡ flow.outside → body_from outside inside ts ps q first o ns ≡ body_edges ps ts
+named_edges outside inside ts ps q first o ns at_end at_first at_params ic i j =
+    ap (λ c. on c entry_node (place_at ns (Some q)) ++ (on c (params_node ps) (place_at ns first) ++ all_edges (context_at ns inside) (place_at ns (Some o)) ts)) j
+      ∙ ap (λ c. on flow.outside entry_node (place_at ns (Some q)) ++ (on flow.outside (params_node ps) (place_at ns first) ++ all_edges c (place_at ns (Some o)) ts)) i
+      ∙ ap (λ m. on flow.outside entry_node (m ∷ []) ++ (on flow.outside (params_node ps) (place_at ns first) ++ all_edges in_body (place_at ns (Some o)) ts)) at_params
+      ∙ ap (λ l. on flow.outside entry_node (params_node ps ∷ []) ++ (on flow.outside (params_node ps) l ++ all_edges in_body (place_at ns (Some o)) ts)) (at_first ∙ ap (λ k. entry_of k (place_at ns (Some o)) ts) ic)
+      ∙ ap (λ m. on flow.outside entry_node (params_node ps ∷ []) ++ (on flow.outside (params_node ps) (entry_of 0 (m ∷ []) ts) ++ all_edges in_body (m ∷ []) ts)) at_end
+
+pub walk_body : {a b d f g : Builder} {ts : Trees} {ps : List ℕ} {o q r : ℕ} {first : Option ℕ} {inside : FlowContext} (outside : FlowContext) → a.nodes.items ≡ [] → a.edges.items ≡ [] → a.ahead ≡ length (body_nodes ps ts) → StepsTo a b end_node outside None o → ((ns : List Node) → node_at ns o ≡ end_node → context_at ns inside ≡ in_body) → inside.copy ≡ 0 → ((ns : List Node) → context_at ns outside ≡ flow.outside) → WalksTrees b d ts inside (Some o) first → StepsTo d f (params_node ps) outside first q → StepsTo f g entry_node outside (Some q) r → IsBuilt ps ts g
+unfolding on edges_at
+walk_body {a} {b} {d} {f} {g} {ts} {ps} {o} {q} {r} {first} {inside} outside n e room u ia ic oa w p x =
+    let alone : Enters a b (end_node ∷ []) (λ ns. []) (λ ns. node_at ns o ≡ end_node) = whole u refl (λ ns h. ap (λ c. on c end_node []) (oa ns)) (λ ns h. h) in
+    let body : Enters a d (all_nodes inside.copy ts ++ end_node ∷ []) (λ ns. all_edges (context_at ns inside) (place_at ns (Some o)) ts) (λ ns. (node_at ns o ≡ end_node) × (place_at ns first ≡ entry_of inside.copy (place_at ns (Some o)) ts)) = whole (next alone w.trees_walked) refl (λ ns h. append-nil (all_edges (context_at ns inside) (place_at ns (Some o)) ts)) (λ ns h. h) in
+    let all = next (next body p) x in
+    let same : entry_node ∷ params_node ps ∷ (all_nodes inside.copy ts ++ end_node ∷ []) ≡ body_nodes ps ts = ap (λ c. entry_node ∷ params_node ps ∷ (all_nodes c ts ++ end_node ∷ [])) ic in
+    let none : reverse a.nodes.items ≡ [] = ap reverse n in
+    let nodes_are : reverse g.nodes.items ≡ body_nodes ps ts = all.grows.has_nodes ∙ ap (λ l. (entry_node ∷ params_node ps ∷ (all_nodes inside.copy ts ++ end_node ∷ [])) ++ l) none ∙ append-nil (entry_node ∷ params_node ps ∷ (all_nodes inside.copy ts ++ end_node ∷ [])) ∙ same in
+    let left : 0 ≡ g.ahead = omega (arith, room, all.grows.has_room, ap length same) in
+    let h : Ends g (reverse g.nodes.items) = record { rest = []; is = refl; ahead = left } in
+    let found = all.is_found (reverse g.nodes.items) h in
+    let at_end = found.0.0.0 in
+    let at_first = found.0.0.1 in
+    let at_params = found.0.1 in
+    let i = ia (reverse g.nodes.items) at_end in
+    let j = oa (reverse g.nodes.items) in
+    record {
+      built_nodes = nodes_are;
+      built_edges = all.grows.has_edges (reverse g.nodes.items) h ∙ ap (λ l. body_from outside inside ts ps q first o (reverse g.nodes.items) ++ map (edge_at (reverse g.nodes.items)) (reverse l)) e ∙ append-nil (body_from outside inside ts ps q first o (reverse g.nodes.items)) ∙ named_edges outside inside ts ps q first o (reverse g.nodes.items) at_end at_first at_params ic i j;
+    }

@@ -8,7 +8,7 @@ use Rattle.kt_model.specs.declared.graph.FlowEffect.TheVariants as effect
 use Rattle.kt_model.specs.declared.graph.Tag.TheVariants as tag
 use Rattle.kt_model.specs.BodyTrees.{Tree, Trees}
 use Rattle.kt_model.specs.ControlFlow as flow
-use Rattle.kt_model.specs.ControlFlow.{Node, Edge, Effects, node, on, nodes, all_nodes, edges, all_edges, in_of, entry_of, last_nodes, last_edges, test_edges, on_true_of, on_false_of, inside_of}
+use Rattle.kt_model.specs.ControlFlow.{Node, Edge, Effects, node, on, nodes, all_nodes, edges, all_edges, in_of, entry_of, body_nodes, body_edges, last_nodes, last_edges, test_edges, on_true_of, on_false_of, inside_of}
 use Rattle.kt_model.specs.Bodies.{node_at, edges_at}
 use Rattle.kt_graph.specs.declared.building.Builder.{Builder}
 use Rattle.kt_graph.specs.declared.building.Exits.{Exits}
@@ -98,3 +98,8 @@ pub record WalksTrees (old new : Builder) (ts : Trees) (context : FlowContext) (
 abbrev pub place_if : Bool → ℕ → Option ℕ
 place_if true n = Some n
 place_if false n = None
+
+-- all nodes and edges of a body were added, each with its final number
+pub record IsBuilt (parameters : List ℕ) (body : Trees) (b : Builder) : Type 0 where
+  pub built_nodes : reverse b.nodes.items ≡ body_nodes parameters body
+  pub built_edges : edges_at (reverse b.nodes.items) (reverse b.edges.items) ≡ body_edges parameters body

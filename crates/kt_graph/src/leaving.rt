@@ -114,6 +114,18 @@ impl Builder {
         self.step(context, tree, Tag::In, Items::new(self.alloc), to)
     }
 
+    /// Adds a node of the body itself, which does nothing.
+    pub fn bare(
+        &mut self,
+        context: FlowContext<'_>,
+        tag: Tag,
+        to: Option<u32>,
+    ) -> Result<u32, NoMemory>
+        ensures { IfOk result (StepsTo self.old self.new (node 0 tag context.entry.copy []) context.entry to) }
+    {
+        self.step(context, 0, tag, Items::new(self.alloc), to)
+    }
+
     /// Adds the `out` of a jump, which leads to a place whatever follows the jump.
     pub fn jump(
         &mut self,

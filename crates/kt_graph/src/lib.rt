@@ -3,7 +3,11 @@
 #![tactic(auto)]
 
 mod building;
+mod count;
+mod graphs;
 mod leaving;
 mod simple;
 mod statements;
 mod walk;
+
+pub use graphs::{GraphFault, graph};

@@ -15,7 +15,7 @@ use kt_tree::ast::{Assignment, Expr, ExprKind, Stmt};
 use sqlite_items::Items;
 
 /// Whether an expression is a name that stands alone.
-fn is_name(e: &Expr) -> bool
+pub fn is_name(e: &Expr) -> bool
     ensures { (uses : ℕ → Named) → (seen uses e.now).name ≡ name_span result e.now.span }
 {
     match &e.kind {
