@@ -1,7 +1,8 @@
 -- How many nodes a tree adds, and how counts go together.
-use Rattle.std.proofs.Common.{◌≡◌, ℕ, suc, ◌+◌, min, List, [], ◌∷◌, ◌++◌, length, Bool, true, false, refl, sym, ap, ◌∙◌, arith, length-append, zero-add, add-zero}
+use Rattle.std.proofs.Common.{◌<◌, ◌≤◌, ◌*◌, ◌^◌, ◌⊎◌, inl, inr, ◌≡◌, ℕ, suc, ◌+◌, min, List, [], ◌∷◌, ◌++◌, length, Bool, true, false, refl, sym, ap, ◌∙◌, arith, length-append, zero-add, add-zero}
 use Rattle.kt_model.specs.BodyTrees.{Piece, Text', Inserted', inserted_of, Tree, Trees, Operation', Name', Paren', Not', And', Or', If', Declare', Local', Assign', Compound', Call', Return', Throw', Shut', Empty', First'}
-use Rattle.kt_model.specs.ControlFlow.{Node, nodes, all_nodes, leave_nodes, out_of}
+use Rattle.kt_model.specs.ControlFlow.{Node, nodes, all_nodes, leave_nodes, out_of, body_nodes, end_node}
+use Rattle.kt_model.specs.Bodies.{IsTooLarge}
 use Rattle.kt_graph.specs.Sizes.{size, all_size, own_size, capped, Adds}
 
 -- what stands between `in` and the nodes at the end of a tree
@@ -81,3 +82,29 @@ pub count_piece : (p : Piece) (ps : List Piece) {a b r : ℕ} → Adds a b r →
 count_piece (Text' bytes) ps add e f = add 0 (all_size (inserted_of ps)) e f ∙ ap capped (zero-add _)
 count_piece (Inserted' t) ps add e f =
     add (size false t) (all_size (inserted_of ps)) (e ∙ ap capped (add-zero _)) f
+
+-- ---- the size of a body
+
+-- a body has three nodes beside those of its trees
+length-body : (ps : List ℕ) (ts : Trees) → length (body_nodes ps ts) ≡ 3 + all_size ts
+length-body ps ts = omega (arith, length-append (all_nodes 0 ts) (end_node ∷ []), length-all_nodes 0 ts)
+
+-- a count within the limit is exact
+pub exact : (ps : List ℕ) (ts : Trees) (count nodes : ℕ) → count ≡ capped (all_size ts) → Adds 3 count nodes → nodes ≤ 65536 → nodes ≡ length (body_nodes ps ts)
+exact ps ts count nodes e add h = let sum : nodes ≡ min 65537 (3 + all_size ts) = add 3 (all_size ts) refl e in omega (arith, length-body ps ts)
+
+-- a count past the limit is of a body that is too large
+pub large : (ps : List ℕ) (ts : Trees) (count nodes classes : ℕ) → count ≡ capped (all_size ts) → Adds 3 count nodes → 65536 < nodes → IsTooLarge (length (body_nodes ps ts)) 0 classes
+large ps ts count nodes classes e add h = let sum : nodes ≡ min 65537 (3 + all_size ts) = add 3 (all_size ts) refl e in inl (omega (arith, length-body ps ts))
+
+-- and one within it is not
+pub small : (n classes : ℕ) → n ≤ 65536 → IsTooLarge n 0 classes → ⊥
+small n classes h (inl large) = omega arith
+small n classes h (inr many) = absurd (nothing_above n classes many)
+  where
+    nothing_above : (n classes : ℕ) → 2 ^ 30 < n * (0 * (2 * classes + 2)) → ⊥
+    nothing_above n classes h = omega arith
+
+-- a body whose count is within the limit is not too large
+pub fits : (ps : List ℕ) (ts : Trees) (count nodes classes : ℕ) → count ≡ capped (all_size ts) → Adds 3 count nodes → nodes ≤ 65536 → IsTooLarge (length (body_nodes ps ts)) 0 classes → ⊥
+fits ps ts count nodes classes e add h = small (length (body_nodes ps ts)) classes (let same : nodes ≡ length (body_nodes ps ts) = exact ps ts count nodes e add h in omega arith)

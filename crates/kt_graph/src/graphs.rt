@@ -71,10 +71,12 @@ fn body_count(uses: &Uses, body: Option<&FunctionBody>) -> u32
     ensures { result ≡ capped (all_size (body_trees_of (named_at uses.now) (option_copied body.entry))) }
 {
     match body {
-        Some(FunctionBody::Expr(e)) => count::expr(uses, false, e),
-        Some(FunctionBody::Block { contract: _, block }) => {
-            count::statements(uses, block.statements.as_slice())
-        }
+        Some(written) => match written {
+            FunctionBody::Expr(e) => count::expr(uses, false, e),
+            FunctionBody::Block { contract: _, block } => {
+                count::statements(uses, block.statements.as_slice())
+            }
+        },
         None => 0,
     }
 }
@@ -102,14 +104,16 @@ impl Builder {
         ensures { IfOk result (λ n. WalksTrees self.old self.new (body_trees_of (named_at uses.now) (option_copied body.entry)) context.entry next n) }
     {
         match body {
-            Some(FunctionBody::Expr(e)) => {
-                let n = self.expr(uses, context, Exits::Then(next), e)?;
-                Ok(Some(n))
-            }
-            Some(FunctionBody::Block { contract: _, block }) => {
-                let n = self.statements(uses, context, next, block.statements.as_slice())?;
-                Ok(n)
-            }
+            Some(written) => match written {
+                FunctionBody::Expr(e) => {
+                    let n = self.expr(uses, context, Exits::Then(next), e)?;
+                    Ok(Some(n))
+                }
+                FunctionBody::Block { contract: _, block } => {
+                    let n = self.statements(uses, context, next, block.statements.as_slice())?;
+                    Ok(n)
+                }
+            },
             None => Ok(next),
         }
     }
