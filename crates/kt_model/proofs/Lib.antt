@@ -4,3 +4,5 @@ pub mod ListLemmas
 pub mod ClassLemmas
 pub mod SupersLemmas
 pub mod MemberLemmas
+pub mod UseLemmas
+pub mod BodyFolds

@@ -16,3 +16,7 @@ pub mod TopNames
 pub mod Sites
 pub mod DeclarationRules
 pub mod Outlines
+pub mod NameUses
+pub mod BodyTrees
+pub mod ControlFlow
+pub mod Bodies

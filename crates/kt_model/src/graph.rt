@@ -1,10 +1,9 @@
-//! The control-flow graph of a body as a value: nodes, edges, variables, targets.
+//! The control-flow graph of a body, as its builder hands it on: numbered nodes with their effects, and edges by these numbers. Which graph a body
+//! has is this crate's definition of control flow.
+use crate::class_table::Numbers;
 use sqlite_items::Items;
 
-/// Numbers, in order.
-pub type Numbers = Items<u32>;
-
-/// What a value is known to be: of the class with this number or not of it, null or not null.
+/// What is known of a value: that it is an instance of a class, that it is none, that it is null, that it is not.
 #[derive(Clone, Copy, Debug, PartialEq, Eq)]
 pub enum Literal {
     Is(u32),
@@ -13,63 +12,58 @@ pub enum Literal {
     NotNull,
 }
 
-/// Literals, in order.
+/// Literals. Clauses see their list.
 pub type Literals = Items<Literal>;
 
-/// Where a target begins: a local, by the number of its declaration, or `this`.
+/// What a target begins with: a local or a parameter, by its declaration, or `this`.
 #[derive(Clone, Copy, Debug, PartialEq, Eq)]
 pub enum Root {
     Local(u32),
     This,
 }
 
-/// A value that facts speak of: a root and the names of the fields behind it.
+/// What facts speak of: a root, and the names of the members that follow it.
 #[derive(Debug, Drop)]
 pub struct Target {
     pub root: Root,
     pub path: Numbers,
 }
 
-/// A literal holds of a target.
+/// A literal that holds of a target.
 #[derive(Debug, Drop)]
 pub struct Fact {
     pub target: Target,
     pub literal: Literal,
 }
 
-/// Facts, in order.
+/// Facts. Clauses see their list.
 pub type FactList = Items<Fact>;
 
-/// What is known of a value that is assigned: literals, or all that is known of the local with this declaration.
+/// What is known of a value that is assigned: literals, or all that is known of a local, by its declaration.
 #[derive(Debug, Drop)]
 pub enum Known {
     Literals(Literals),
     CopyOf(u32),
 }
 
-/// A variable of a body: a local, by the number of its declaration, or a field of the class, by its place there.
+/// What is assigned or not: a local or a parameter, by its declaration, or a field, by its place in the class.
 #[derive(Clone, Copy, Debug, PartialEq, Eq, Hash)]
 pub enum Variable {
     Local(u32),
     Field(u32),
 }
 
-/// What a node does.
+/// What a node does. `Assume` has the facts that hold there; `Kill` removes all facts on a local, by its declaration.
 #[derive(Debug, Drop)]
 pub enum FlowEffect {
-    /// The variable is read.
     Read(Variable),
-    /// The variable is declared, and has no value from here on.
     Declare(Variable),
-    /// The variable has a value from here on.
     Assign(Variable, Known),
-    /// These facts hold from here on.
     Assume(FactList),
-    /// No fact on the local with this declaration holds from here on.
     Kill(u32),
 }
 
-/// What a node stands for in its tree, or in the body.
+/// Which of a tree's nodes a node is.
 #[derive(Clone, Copy, Debug, PartialEq, Eq)]
 pub enum Tag {
     Entry,
@@ -93,7 +87,7 @@ pub enum Tag {
     End,
 }
 
-/// A node: the number of its tree, 0 for none, its tag, its copy, and its effects in their order.
+/// A node: the number of its tree (0 for none), which of the tree's nodes it is, which copy, and what it does.
 #[derive(Debug, Drop)]
 pub struct NodeRow {
     pub tree: u32,
@@ -102,21 +96,23 @@ pub struct NodeRow {
     pub effects: Items<FlowEffect>,
 }
 
-/// An edge between two nodes, by their places in the list of nodes.
+/// An edge, by the places of its nodes, from 0.
 #[derive(Clone, Copy, Debug, PartialEq, Eq)]
 pub struct EdgeRow {
     pub from: u32,
     pub to: u32,
 }
 
-/// The control-flow graph of a body. The order lists the nodes, the entry first; `classes` is the number of classes of
-/// the file.
+/// A graph. Its nodes stand in the order of a sweep along the flow.
 #[derive(Debug, Drop)]
 pub struct Graph {
     pub nodes: Items<NodeRow>,
     pub edges: Items<EdgeRow>,
+    /// What the nodes declare, in the order of the nodes.
     pub variables: Items<Variable>,
     pub targets: Items<Target>,
+    /// The places of the nodes in the order of a sweep.
     pub order: Numbers,
+    /// How many classes the class table has.
     pub classes: u32,
 }

@@ -9,3 +9,4 @@ pub mod graph;
 pub mod kinds;
 pub mod status;
 pub mod top_names;
+pub mod uses;

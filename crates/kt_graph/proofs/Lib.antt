@@ -1,0 +1,4 @@
+pub mod Growing
+pub mod Walks
+pub mod Counts
+pub mod Declarations

@@ -1,0 +1,217 @@
+use Rattle.std.proofs.Common.{◌≡◌, ◌∙◌, ◌-◌, ℕ, ap, sym, refl, map, [], ◌∷◌, ◌++◌, Option, Some, None, option_map, arith, length, drop}
+use Rattle.std.proofs.lemmas.List.{drop_all}
+use Rattle.kt_tree.specs.declared.ast.body.ExprKind.TheVariants as e
+use Rattle.kt_tree.specs.declared.ast.body.Stmt.TheVariants as s
+use Rattle.kt_model.specs.declared.uses.Named.TheVariants as named
+use Rattle.kt_model.specs.declared.graph.Tag.TheVariants as tag
+use Rattle.kt_graph.specs.declared.building.Exits.TheVariants as exits
+use Rattle.kt_model.specs.ControlFlow.{bring}
+use Rattle.kt_model.proofs.BodyFolds.{tree_of_kind, kind_int, kind_bool, kind_null, kind_name, kind_template, kind_paren, kind_call, kind_call_with, kind_sign, kind_not, kind_sum, kind_arithmetic, kind_compare, kind_equal, kind_and, kind_or, kind_if_any, kind_return_any, kind_return_at_any, kind_throw, kind_other, stmt_expr, stmt_local_any, stmt_assign_any, stmt_while, stmt_do_while, stmt_for, branch_braced, branch_single, piece_text, piece_inserted, block_list}
+use Rattle.kt_model.specs.NameUses.{named_at}
+use Rattle.kt_model.specs.BodyTrees.{Int', Bool', Null', Template', Sign', Sum', Arithmetic', Compare', Equal', BuiltIn', Return', Compound', texts_of, inserted_of, seen_optional, shut, expr_tree, branch_trees, stmt_tree, piece, seen, seen_trees, listed, otherwise, call_tree, local_tree, assign_tree, assigned_tree, name_span}
+use Rattle.kt_graph.proofs.Walks.{same_tree, same_trees, same_next, expr_at, branch_at, walk_operation, walk_unary, walk_binary, walk_paren, walk_not, walk_and, walk_or, walk_if, walk_throw, walk_return, walk_one, walk_first, walk_empty, walk_call, walk_name, walk_local, walk_assign, walk_compound, walk_declare, walk_piece, stmts_more, exprs_more, pieces_more, leaves_effects, steps_effects}
+use Rattle.kt_graph.proofs.building.Builder.+walk.Goals as goal
+
+pub expr-returns-in_ok-n-in-Int : goal.expr-returns-in_ok-n-in-Int
+expr-returns-in_ok-n-in-Int t c =
+    same_tree (tree_of_kind (named_at c.args.uses.now) c.args.e.now _ _ c.in-Int.is (kind_int (named_at c.args.uses.now) c.in-Int.field-0)) (c.in_ok-n-in-Int.ensures (Int' c.in-Int.field-0) refl)
+
+pub expr-returns-in_ok-n-in-Bool : goal.expr-returns-in_ok-n-in-Bool
+expr-returns-in_ok-n-in-Bool t c =
+    same_tree (tree_of_kind (named_at c.args.uses.now) c.args.e.now _ _ c.in-Bool.is (kind_bool (named_at c.args.uses.now) c.in-Bool.field-0)) (c.in_ok-n-in-Bool.ensures (Bool' c.in-Bool.field-0) refl)
+
+pub expr-returns-in_ok-n-in-Null : goal.expr-returns-in_ok-n-in-Null
+expr-returns-in_ok-n-in-Null t c =
+    same_tree (tree_of_kind (named_at c.args.uses.now) c.args.e.now _ _ c.in-Null.is (kind_null (named_at c.args.uses.now))) (c.in_ok-n-in-Null.ensures Null' refl)
+
+pub expr-returns-in_ok-n-in-Name : goal.expr-returns-in_ok-n-in-Name
+expr-returns-in_ok-n-in-Name t c =
+    same_tree (tree_of_kind (named_at c.args.uses.now) c.args.e.now _ _ c.in-Name.is (kind_name (named_at c.args.uses.now) c.in-Name.field-0)) (c.in_ok-n-in-Name.ensures c.args.e.now.span)
+
+pub expr-returns-in_ok-n-in-Template : goal.expr-returns-in_ok-n-in-Template
+expr-returns-in_ok-n-in-Template t c =
+    same_tree (tree_of_kind (named_at c.args.uses.now) c.args.e.now _ _ c.in-Template.is (kind_template (named_at c.args.uses.now) c.in-Template.parts)) (walk_operation (Template' (texts_of (map (piece (named_at c.args.uses.now)) c.in-Template.parts))) c.in_ok-out-in-Template.ensures (same_trees (ap (λ l. inserted_of (map (piece (named_at c.args.uses.now)) l)) (sym c.as_slice.ensures)) c.in_ok-first-in-Template.ensures) c.in_ok-n-in-Template.ensures)
+
+pub expr-returns-in_ok-n-in-Paren : goal.expr-returns-in_ok-n-in-Paren
+expr-returns-in_ok-n-in-Paren t c =
+    same_tree (tree_of_kind (named_at c.args.uses.now) c.args.e.now _ _ c.in-Paren.is (kind_paren (named_at c.args.uses.now) c.in-Paren.a)) (walk_paren c.in_ok-inner-in-Paren.ensures (expr_at (named_at c.args.uses.now) c.get.ensures c.in_ok-a-in-Paren.ensures) c.in_ok-n-in-Paren.ensures)
+
+pub expr-returns-in_ok-n-in-Sign : goal.expr-returns-in_ok-n-in-Sign
+expr-returns-in_ok-n-in-Sign t c =
+    same_tree (tree_of_kind (named_at c.args.uses.now) c.args.e.now _ _ c.in-Sign.is (kind_sign (named_at c.args.uses.now) c.in-Sign.field-0 c.in-Sign.a)) (walk_unary c.in_ok-out-in-Sign.ensures (expr_at (named_at c.args.uses.now) c.get-in-Sign.ensures c.in_ok-a-in-Sign.ensures) c.in_ok-n-in-Sign.ensures (Sign' c.in-Sign.field-0) refl)
+
+pub expr-returns-in_ok-n-in-Not : goal.expr-returns-in_ok-n-in-Not
+expr-returns-in_ok-n-in-Not t c =
+    same_tree (tree_of_kind (named_at c.args.uses.now) c.args.e.now _ _ c.in-Not.is (kind_not (named_at c.args.uses.now) c.in-Not.a)) (walk_not c.in_ok-on_true-in-Not.ensures (expr_at (named_at c.args.uses.now) c.get-in-Not.ensures c.in_ok-a-in-Not.ensures) c.in_ok-n-in-Not.ensures)
+
+pub expr-returns-in_ok-n-in-Sum : goal.expr-returns-in_ok-n-in-Sum
+expr-returns-in_ok-n-in-Sum t c =
+    same_tree (tree_of_kind (named_at c.args.uses.now) c.args.e.now _ _ c.in-Sum.is (kind_sum (named_at c.args.uses.now) c.in-Sum.a c.in-Sum.b)) (walk_binary c.in_ok-out-in-Sum.ensures (expr_at (named_at c.args.uses.now) c.get-in-Sum.ensures c.in_ok-b-in-Sum.ensures) (expr_at (named_at c.args.uses.now) c.get-in-Sum-2.ensures c.in_ok-a-in-Sum.ensures) c.in_ok-n-in-Sum.ensures Sum' refl)
+
+pub expr-returns-in_ok-n-in-Arithmetic : goal.expr-returns-in_ok-n-in-Arithmetic
+expr-returns-in_ok-n-in-Arithmetic t c =
+    same_tree (tree_of_kind (named_at c.args.uses.now) c.args.e.now _ _ c.in-Arithmetic.is (kind_arithmetic (named_at c.args.uses.now) c.in-Arithmetic.field-0 c.in-Arithmetic.a c.in-Arithmetic.b)) (walk_binary c.in_ok-out-in-Arithmetic.ensures (expr_at (named_at c.args.uses.now) c.get-in-Arithmetic.ensures c.in_ok-b-in-Arithmetic.ensures) (expr_at (named_at c.args.uses.now) c.get-in-Arithmetic-2.ensures c.in_ok-a-in-Arithmetic.ensures) c.in_ok-n-in-Arithmetic.ensures (Arithmetic' c.in-Arithmetic.field-0) refl)
+
+pub expr-returns-in_ok-n-in-Compare : goal.expr-returns-in_ok-n-in-Compare
+expr-returns-in_ok-n-in-Compare t c =
+    same_tree (tree_of_kind (named_at c.args.uses.now) c.args.e.now _ _ c.in-Compare.is (kind_compare (named_at c.args.uses.now) c.in-Compare.field-0 c.in-Compare.a c.in-Compare.b)) (walk_binary c.in_ok-out-in-Compare.ensures (expr_at (named_at c.args.uses.now) c.get-in-Compare.ensures c.in_ok-b-in-Compare.ensures) (expr_at (named_at c.args.uses.now) c.get-in-Compare-2.ensures c.in_ok-a-in-Compare.ensures) c.in_ok-n-in-Compare.ensures (Compare' c.in-Compare.field-0) refl)
+
+pub expr-returns-in_ok-n-in-Equal : goal.expr-returns-in_ok-n-in-Equal
+expr-returns-in_ok-n-in-Equal t c =
+    same_tree (tree_of_kind (named_at c.args.uses.now) c.args.e.now _ _ c.in-Equal.is (kind_equal (named_at c.args.uses.now) c.in-Equal.field-0 c.in-Equal.a c.in-Equal.b)) (walk_binary c.in_ok-out-in-Equal.ensures (expr_at (named_at c.args.uses.now) c.get-in-Equal.ensures c.in_ok-b-in-Equal.ensures) (expr_at (named_at c.args.uses.now) c.get-in-Equal-2.ensures c.in_ok-a-in-Equal.ensures) c.in_ok-n-in-Equal.ensures (Equal' c.in-Equal.field-0) refl)
+
+pub expr-returns-in_ok-n-in-And : goal.expr-returns-in_ok-n-in-And
+expr-returns-in_ok-n-in-And t c =
+    same_tree (tree_of_kind (named_at c.args.uses.now) c.args.e.now _ _ c.in-And.is (kind_and (named_at c.args.uses.now) c.in-And.a c.in-And.b)) (walk_and c.in_ok-on_true-in-And.ensures (expr_at (named_at c.args.uses.now) c.get-in-And.ensures c.in_ok-b-in-And.ensures) (expr_at (named_at c.args.uses.now) c.get-in-And-2.ensures c.in_ok-a-in-And.ensures) c.in_ok-n-in-And.ensures)
+
+pub expr-returns-in_ok-n-in-Or : goal.expr-returns-in_ok-n-in-Or
+expr-returns-in_ok-n-in-Or t c =
+    same_tree (tree_of_kind (named_at c.args.uses.now) c.args.e.now _ _ c.in-Or.is (kind_or (named_at c.args.uses.now) c.in-Or.a c.in-Or.b)) (walk_or c.in_ok-on_true-in-Or.ensures (expr_at (named_at c.args.uses.now) c.get-in-Or.ensures c.in_ok-b-in-Or.ensures) (expr_at (named_at c.args.uses.now) c.get-in-Or-2.ensures c.in_ok-a-in-Or.ensures) c.in_ok-n-in-Or.ensures)
+
+pub expr-returns-in_ok-n-in-If : goal.expr-returns-in_ok-n-in-If
+expr-returns-in_ok-n-in-If t c =
+    same_tree (tree_of_kind (named_at c.args.uses.now) c.args.e.now _ _ c.in-If.is (kind_if_any (named_at c.args.uses.now) c.in-If.condition c.in-If.then c.in-If.otherwise)) (walk_if c.in_ok-out-in-If.ensures c.in_ok-on_false-in-If.ensures (branch_at (named_at c.args.uses.now) c.get-in-If.ensures c.in_ok-on_true-in-If.ensures) (expr_at (named_at c.args.uses.now) c.get-in-If-2.ensures c.in_ok-c-in-If.ensures) c.in_ok-n-in-If.ensures)
+
+pub expr-returns-in_ok-n-in-Throw : goal.expr-returns-in_ok-n-in-Throw
+expr-returns-in_ok-n-in-Throw t c =
+    same_tree (tree_of_kind (named_at c.args.uses.now) c.args.e.now _ _ c.in-Throw.is (kind_throw (named_at c.args.uses.now) c.in-Throw.a)) (walk_throw c.in_ok-out-in-Throw.ensures (expr_at (named_at c.args.uses.now) c.get-in-Throw.ensures c.in_ok-a-in-Throw.ensures) c.in_ok-n-in-Throw.ensures)
+
+pub expr-returns-in_ok-n-in_default : goal.expr-returns-in_ok-n-in_default
+expr-returns-in_ok-n-in_default t c =
+    same_tree (tree_of_kind (named_at c.args.uses.now) c.args.e.now c.args.e.now.kind shut refl (kind_other (named_at c.args.uses.now) c.args.e.now.kind c.in_default.not-Int c.in_default.not-Bool c.in_default.not-Null c.in_default.not-Name c.in_default.not-Template c.in_default.not-Paren c.in_default.not-Call c.in_default.not-Sign c.in_default.not-Not c.in_default.not-Sum c.in_default.not-Arithmetic c.in_default.not-Compare c.in_default.not-Equal c.in_default.not-And c.in_default.not-Or c.in_default.not-If c.in_default.not-Return c.in_default.not-Throw)) c.in_ok-n-in_default.ensures
+
+pub statements-loop-i-init : goal.statements-loop-i-init
+statements-loop-i-init t c = record {
+  in_range = omega arith;
+  walked = same_trees (ap (λ l. listed (map (stmt_tree (named_at c.args.uses.now)) l)) (drop_all (length c.args.statements.now) c.args.statements.now (omega arith))) (walk_empty c.args.self.now c.args.context c.args.next);
+}
+
+pub statements-loop-i-preserved : goal.statements-loop-i-preserved
+statements-loop-i-preserved t c = record {
+  in_range = omega arith;
+  walked = same_trees (stmts_more (named_at c.args.uses.now) c.args.statements.now c.loop-i.i (c.loop-i.i - 1) c.index-statements-i.result (omega arith) (omega arith) c.index-statements-i.is) (walk_first c.loop-i.invariant.walked c.in_ok-n.ensures);
+}
+
+pub arguments-loop-i-init : goal.arguments-loop-i-init
+arguments-loop-i-init t c = record {
+  in_range = omega arith;
+  walked = same_trees (ap (λ l. seen_trees (map (seen (named_at c.args.uses.now)) l)) (drop_all (length c.args.arguments.now) c.args.arguments.now (omega arith))) (walk_empty c.args.self.now c.args.context c.args.next);
+}
+
+pub arguments-loop-i-preserved : goal.arguments-loop-i-preserved
+arguments-loop-i-preserved t c = record {
+  in_range = omega arith;
+  walked = same_trees (exprs_more (named_at c.args.uses.now) c.args.arguments.now c.loop-i.i (c.loop-i.i - 1) c.index-arguments-i.result (omega arith) (omega arith) c.index-arguments-i.is) (walk_first c.loop-i.invariant.walked c.in_ok-n.ensures);
+}
+
+pub pieces-loop-i-init : goal.pieces-loop-i-init
+pieces-loop-i-init t c = record {
+  in_range = omega arith;
+  walked = same_trees (ap (λ l. inserted_of (map (piece (named_at c.args.uses.now)) l)) (drop_all (length c.args.parts.now) c.args.parts.now (omega arith))) (walk_empty c.args.self.now c.args.context c.args.next);
+}
+
+pub pieces-loop-i-preserved : goal.pieces-loop-i-preserved
+pieces-loop-i-preserved t c = record {
+  in_range = omega arith;
+  walked = same_trees (pieces_more (named_at c.args.uses.now) c.args.parts.now c.loop-i.i (c.loop-i.i - 1) c.index-parts-i.result (omega arith) (omega arith) c.index-parts-i.is) (walk_piece _ _ c.loop-i.invariant.walked c.in_ok-place.ensures);
+}
+
+pub call-returns-in_ok-n-in-Function : goal.call-returns-in_ok-n-in-Function
+call-returns-in_ok-n-in-Function t c =
+    same_tree (ap (λ m. call_tree m (seen_trees (map (seen (named_at c.args.uses.now)) c.args.arguments.now)) c.args.tree) (sym c.in-Function.ensures)) (walk_call c.in-Function.field-0 c.in-Function.returns c.in_ok-out-in-Function.ensures (same_next c.place_if-next.ensures c.in_ok-first-in-Function.ensures) c.in_ok-n-in-Function.ensures)
+
+pub call-returns-in_ok-n-in-BuiltIn : goal.call-returns-in_ok-n-in-BuiltIn
+call-returns-in_ok-n-in-BuiltIn t c =
+    same_tree (ap (λ m. call_tree m (seen_trees (map (seen (named_at c.args.uses.now)) c.args.arguments.now)) c.args.tree) (sym c.in-BuiltIn.ensures)) (walk_operation (BuiltIn' c.in-BuiltIn.field-0 c.in-BuiltIn.returns) c.in_ok-out-in-BuiltIn.ensures (same_next c.place_if-next-in-BuiltIn.ensures c.in_ok-first-in-BuiltIn.ensures) c.in_ok-n-in-BuiltIn.ensures)
+
+pub returned-returns-in_ok-n-in-None : goal.returned-returns-in_ok-n-in-None
+returned-returns-in_ok-n-in-None t c =
+    same_tree (ap (λ w. Return' c.args.tree (seen_optional (option_map (seen (named_at c.args.uses.now)) w))) c.in-None.is) (walk_return c.in_ok-out.ensures (walk_empty c.jump.new.self c.args.context (Some c.in_ok-out.out)) c.in_ok-n-in-None.ensures)
+
+pub returned-returns-in_ok-n-in-Some : goal.returned-returns-in_ok-n-in-Some
+returned-returns-in_ok-n-in-Some t c =
+    same_tree (ap (λ w. Return' c.args.tree (seen_optional (option_map (seen (named_at c.args.uses.now)) w))) c.in-Some.is) (walk_return c.in_ok-out.ensures (walk_one (expr_at (named_at c.args.uses.now) c.get.ensures c.in_ok-a-in-Some.ensures)) c.in_ok-n-in-Some.ensures)
+
+pub branch-returns-in_ok-n-in-Braced : goal.branch-returns-in_ok-n-in-Braced
+branch-returns-in_ok-n-in-Braced t c =
+    same_trees (ap (branch_trees (named_at c.args.uses.now)) c.in-Braced.is ∙ branch_braced (named_at c.args.uses.now) _ ∙ block_list (named_at c.args.uses.now) _) (same_trees (ap (λ l. listed (map (stmt_tree (named_at c.args.uses.now)) l)) (sym c.as_slice.ensures)) c.in_ok-n-in-Braced.ensures)
+
+pub branch-returns-in_ok-n-in-Single : goal.branch-returns-in_ok-n-in-Single
+branch-returns-in_ok-n-in-Single t c =
+    same_trees (ap (branch_trees (named_at c.args.uses.now)) c.in-Single.is ∙ branch_single (named_at c.args.uses.now) _) (walk_one c.in_ok-n-in-Single.ensures)
+
+pub otherwise-returns-in_ok-n-in-Some : goal.otherwise-returns-in_ok-n-in-Some
+otherwise-returns-in_ok-n-in-Some t c =
+    same_trees (ap (λ w. otherwise (option_map (branch_trees (named_at c.args.uses.now)) w)) c.in-Some.is) (branch_at (named_at c.args.uses.now) c.get.ensures c.in_ok-n-in-Some.ensures)
+
+pub piece-returns-in_ok-n-in-Inserted : goal.piece-returns-in_ok-n-in-Inserted
+piece-returns-in_ok-n-in-Inserted t c =
+    same_trees (ap (λ w. inserted_of (piece (named_at c.args.uses.now) w ∷ [])) c.in-Inserted.is ∙ ap (λ w. inserted_of (w ∷ [])) (piece_inserted (named_at c.args.uses.now) _)) (walk_one c.in_ok-n-in-Inserted.ensures)
+
+pub stmt-returns-in_ok-n-in-Expr : goal.stmt-returns-in_ok-n-in-Expr
+stmt-returns-in_ok-n-in-Expr t c =
+    same_tree (ap (stmt_tree (named_at c.args.uses.now)) c.in-Expr.is ∙ stmt_expr (named_at c.args.uses.now) _) c.in_ok-n-in-Expr.ensures
+
+pub stmt-returns-in_ok-n-in-Local : goal.stmt-returns-in_ok-n-in-Local
+stmt-returns-in_ok-n-in-Local t c =
+    same_tree (ap (stmt_tree (named_at c.args.uses.now)) c.in-Local.is ∙ stmt_local_any (named_at c.args.uses.now) _ _ _ _ _ _) (c.in_ok-n-in-Local.ensures _)
+
+pub stmt-returns-in_ok-n-in-Assign : goal.stmt-returns-in_ok-n-in-Assign
+stmt-returns-in_ok-n-in-Assign t c =
+    same_tree (ap (stmt_tree (named_at c.args.uses.now)) c.in-Assign.is ∙ stmt_assign_any (named_at c.args.uses.now) _ _ _ _ _ ∙ ap (λ w. assign_tree (named_at c.args.uses.now c.in-Assign.number) c.in-Assign.number w c.in-Assign.assignment (option_map (seen (named_at c.args.uses.now)) c.in-Assign.value)) (c.is_name-is_name.ensures (named_at c.args.uses.now))) (c.in_ok-n-in-Assign.ensures _)
+
+pub stmt-returns-in_ok-n-in-While : goal.stmt-returns-in_ok-n-in-While
+stmt-returns-in_ok-n-in-While t c =
+    same_tree (ap (stmt_tree (named_at c.args.uses.now)) c.in-While.is ∙ stmt_while (named_at c.args.uses.now) _ _ _ _) c.in_ok-n-in-While.ensures
+
+pub stmt-returns-in_ok-n-in-DoWhile : goal.stmt-returns-in_ok-n-in-DoWhile
+stmt-returns-in_ok-n-in-DoWhile t c =
+    same_tree (ap (stmt_tree (named_at c.args.uses.now)) c.in-DoWhile.is ∙ stmt_do_while (named_at c.args.uses.now) _ _ _ _) c.in_ok-n-in-DoWhile.ensures
+
+pub stmt-returns-in_ok-n-in-For : goal.stmt-returns-in_ok-n-in-For
+stmt-returns-in_ok-n-in-For t c =
+    same_tree (ap (stmt_tree (named_at c.args.uses.now)) c.in-For.is ∙ stmt_for (named_at c.args.uses.now) _ _ _ _ _ _ _ _) c.in_ok-n-in-For.ensures
+
+pub compound-returns-in_ok-n-in-Some : goal.compound-returns-in_ok-n-in-Some
+compound-returns-in_ok-n-in-Some t c at fixed o =
+    same_tree (ap (λ w. Compound' c.args.tree at c.args.local fixed o (seen_optional (option_map (seen (named_at c.args.uses.now)) w))) c.in-Some.is) (walk_compound at c.args.local fixed o (leaves_effects _ _ _ _ _ _ c.args.context (exits.Then c.args.next) c.in_ok-effects.ensures c.in_ok-out.ensures) (walk_one c.in_ok-a-in-Some.ensures) (steps_effects _ _ _ _ tag.In _ _ c.args.context (Some c.in_ok-a-in-Some.a) c.in_ok-old.ensures c.in_ok-n-in-Some.ensures))
+
+pub compound-returns-in_ok-n-in-None : goal.compound-returns-in_ok-n-in-None
+compound-returns-in_ok-n-in-None t c at fixed o =
+    same_tree (ap (λ w. Compound' c.args.tree at c.args.local fixed o (seen_optional (option_map (seen (named_at c.args.uses.now)) w))) c.in-None.is) (walk_compound at c.args.local fixed o (leaves_effects _ _ _ _ _ _ c.args.context (exits.Then c.args.next) c.in_ok-effects.ensures c.in_ok-out.ensures) (walk_empty c.leave.new.self c.args.context (Some c.in_ok-out.out)) (steps_effects _ _ _ _ tag.In _ _ c.args.context (Some c.in_ok-out.out) c.in_ok-old.ensures c.in_ok-n-in-None.ensures))
+
+pub plain-returns-in_ok-n-in-Some : goal.plain-returns-in_ok-n-in-Some
+plain-returns-in_ok-n-in-Some t c at fixed =
+    same_tree (ap (λ w. assigned_tree c.args.tree at c.args.local fixed None (option_map (seen (named_at c.args.uses.now)) w)) c.in-Some.is) (walk_assign at c.args.local fixed (leaves_effects _ _ _ _ _ _ c.args.context (exits.Then c.args.next) c.in_ok-effects-in-Some.ensures c.in_ok-out-in-Some.ensures) c.in_ok-a-in-Some.ensures c.in_ok-n-in-Some.ensures)
+
+pub local-returns-in_ok-n-in-None : goal.local-returns-in_ok-n-in-None
+local-returns-in_ok-n-in-None t c at =
+    same_tree (ap (λ w. local_tree w c.args.tree at (option_map (seen (named_at c.args.uses.now)) c.args.value.now)) (sym c.in-Variable.ensures) ∙ ap (λ w. local_tree (named.Variable c.in-Variable.local c.in-Variable.field-1) c.args.tree at (option_map (seen (named_at c.args.uses.now)) w)) c.in-None.is) (walk_declare c.in-Variable.local (leaves_effects _ _ _ _ _ _ c.args.context (exits.Then c.args.next) c.in_ok-effects-in-None.ensures c.in_ok-out-in-None.ensures) c.in_ok-n-in-None.ensures)
+
+pub local-returns-in_ok-n-in-Some : goal.local-returns-in_ok-n-in-Some
+local-returns-in_ok-n-in-Some t c at =
+    same_tree (ap (λ w. local_tree w c.args.tree at (option_map (seen (named_at c.args.uses.now)) c.args.value.now)) (sym c.in-Variable.ensures) ∙ ap (λ w. local_tree (named.Variable c.in-Variable.local c.in-Variable.field-1) c.args.tree at (option_map (seen (named_at c.args.uses.now)) w)) c.in-Some.is) (walk_local at c.in-Variable.local (leaves_effects _ _ _ _ _ _ c.args.context (exits.Then c.args.next) (c.in_ok-bring-in-Some.ensures ∙ ap (λ l. l ++ bring c.in-Variable.local) c.new-effects.ensures) c.in_ok-out-in-Some.ensures) c.in_ok-a-in-Some.ensures c.in_ok-n-in-Some.ensures)
+
+pub otherwise-returns-in-None : goal.otherwise-returns-in-None
+otherwise-returns-in-None t c =
+    same_trees (ap (λ w. otherwise (option_map (branch_trees (named_at c.args.uses.now)) w)) c.in-None.is) (walk_empty c.args.self.now c.args.context c.args.next)
+
+pub piece-returns-in-Text : goal.piece-returns-in-Text
+piece-returns-in-Text t c =
+    same_trees (ap (λ w. inserted_of (piece (named_at c.args.uses.now) w ∷ [])) c.in-Text.is ∙ ap (λ w. inserted_of (w ∷ [])) (piece_text (named_at c.args.uses.now) _)) (walk_empty c.args.self.now c.args.context c.args.next)
+
+pub expr-returns-in_ok-n-in-None : goal.expr-returns-in_ok-n-in-None
+expr-returns-in_ok-n-in-None t c =
+    same_tree (tree_of_kind (named_at c.args.uses.now) c.args.e.now _ _ (c.in-Call.is ∙ ap (e.Call c.in-Call.callee c.in-Call.arguments) c.in-None.is) (kind_call (named_at c.args.uses.now) c.in-Call.callee c.in-Call.arguments)) (same_tree (ap (λ l. call_tree (named_at c.args.uses.now c.args.e.now.number) (seen_trees (map (seen (named_at c.args.uses.now)) l)) c.args.e.now.number) (sym c.as_slice-in-None.ensures)) c.in_ok-n-in-None.ensures)
+
+pub expr-returns-in_ok-n-in-Some : goal.expr-returns-in_ok-n-in-Some
+expr-returns-in_ok-n-in-Some t c =
+    same_tree (tree_of_kind (named_at c.args.uses.now) c.args.e.now _ _ (c.in-Call.is ∙ ap (e.Call c.in-Call.callee c.in-Call.arguments) c.in-Some.is) (kind_call_with (named_at c.args.uses.now) c.in-Call.callee c.in-Call.arguments _)) c.in_ok-n-in-Some.ensures
+
+pub expr-returns-in_ok-n-in-None-label : goal.expr-returns-in_ok-n-in-None-label
+expr-returns-in_ok-n-in-None-label t c =
+    same_tree (tree_of_kind (named_at c.args.uses.now) c.args.e.now _ _ (c.in-Return.is ∙ ap (λ l. e.Return l c.in-Return.value) c.in-None-label.is) (kind_return_any (named_at c.args.uses.now) c.in-Return.value)) c.in_ok-n-in-None-label.ensures
+
+pub expr-returns-in_ok-n-in-Some-label : goal.expr-returns-in_ok-n-in-Some-label
+expr-returns-in_ok-n-in-Some-label t c =
+    same_tree (tree_of_kind (named_at c.args.uses.now) c.args.e.now _ _ (c.in-Return.is ∙ ap (λ l. e.Return l c.in-Return.value) c.in-Some-label.is) (kind_return_at_any (named_at c.args.uses.now) _ c.in-Return.value)) c.in_ok-n-in-Some-label.ensures

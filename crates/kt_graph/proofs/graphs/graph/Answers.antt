@@ -1,0 +1,25 @@
+use Rattle.std.proofs.Common.{ap, sym, ◌∙◌, refl, length, ◌≤◌, ◌≡◌, ℕ, subst}
+use Rattle.kt_model.specs.ControlFlow.{body_nodes}
+use Rattle.kt_model.specs.Bodies.{owner_trees, owner_parameters, IsTooLarge}
+use Rattle.kt_graph.proofs.Counts.{all_counted, exact, large, fits}
+use Rattle.kt_graph.proofs.graphs.graph.Goals as goal
+
+pub numbered-requires : goal.numbered-requires
+numbered-requires c =
+    let body = c.args.body.now in
+    exact (owner_parameters body.uses.now body.owner) (owner_trees body.file.now body.uses.now body.owner) _ _ (all_counted c.written.ensures c.body_count-count.ensures) c.add-nodes.ensures c.if-nodes-gt65536.false
+
+pub returns-then-nodes-gt65536-clause-too_large : goal.returns-then-nodes-gt65536-clause-too_large
+returns-then-nodes-gt65536-clause-too_large c =
+    let body = c.args.body.now in
+    (λ e. large (owner_parameters body.uses.now body.owner) (owner_trees body.file.now body.uses.now body.owner) _ _ _ (all_counted c.written.ensures c.body_count-count.ensures) c.add-nodes.ensures c.if-nodes-gt65536.true, λ h. refl)
+
+pub returns-in-Ok-clause-too_large : goal.returns-in-Ok-clause-too_large
+returns-in-Ok-clause-too_large c =
+    let body = c.args.body.now in
+    (λ e. cc, λ h. absurd (fits (owner_parameters body.uses.now body.owner) (owner_trees body.file.now body.uses.now body.owner) _ _ _ (all_counted c.written.ensures c.body_count-count.ensures) c.add-nodes.ensures c.if-nodes-gt65536.false h))
+
+pub returns-in-Err-clause-too_large : goal.returns-in-Err-clause-too_large
+returns-in-Err-clause-too_large c =
+    let body = c.args.body.now in
+    (λ e. cc, λ h. absurd (fits (owner_parameters body.uses.now body.owner) (owner_trees body.file.now body.uses.now body.owner) _ _ _ (all_counted c.written.ensures c.body_count-count.ensures) c.add-nodes.ensures c.if-nodes-gt65536.false h))

@@ -1,0 +1,16 @@
+use Rattle.std.specs.Ordering.{nat_cmp}
+use Rattle.std.proofs.Common.{rules}
+use Rattle.std.proofs.lemmas.Fn.{always_returns_same}
+use Rattle.kt_model.specs.declared.uses.UseRow.{UseRow}
+use Rattle.kt_model.proofs.UseLemmas.{rising, searchable, search_found, search_failed}
+use Rattle.kt_model.proofs.uses.row_of.Goals as goal
+
+pub returns-in-Ok : goal.returns-in-Ok
+returns-in-Ok c =
+    let found = c.in-Ok.ensures.position (λ row. row.tree) (always_returns_same _ _ _ (λ a r h called. search rules)) in
+    search_found c.args.tree c.args.rows.now c.in-Ok.place (record { tree = 0; declaration = 0 }) (rising c.args.rows.now c.requires) c.in-Ok.ensures.bound (found (record { tree = 0; declaration = 0 }))
+
+pub returns-in-Err : goal.returns-in-Err
+returns-in-Err c =
+    let found = c.in-Err.ensures.position (λ row. row.tree) (always_returns_same _ _ _ (λ a r h called. search rules)) in
+    search_failed c.args.tree c.args.rows.now c.in-Err.field-0 (found (searchable c.args.tree c.args.rows.now (rising c.args.rows.now c.requires)))

@@ -1,0 +1,239 @@
+-- The trees of a body as plain data, each with its number, over which the graph, the meaning and the laws are written.
+--
+-- Shapes that are not open yet fold to `Shut'`. To open one: a constructor here, a clause of each definition over these trees, a law for each of
+-- these definitions.
+use Rattle.std.specs.Prelude.{ℕ, Bool, true, false, List, [], ◌∷◌, map, Option, Some, None, if◌then◌else◌}
+use Rattle.kt_tree.specs.declared.token.Span.{Span}
+use Rattle.kt_tree.specs.declared.ast.part.Sign.{Sign}
+use Rattle.kt_tree.specs.declared.ast.part.Arithmetic.{Arithmetic}
+use Rattle.kt_tree.specs.declared.ast.part.Comparison.{Comparison}
+use Rattle.kt_tree.specs.declared.ast.part.Equality.{Equality}
+use Rattle.kt_tree.specs.declared.ast.part.Assignment.{Assignment}
+use Rattle.kt_tree.specs.declared.ast.part.Assignment.TheVariants as assignment
+use Rattle.kt_tree.specs.declared.ast.body.Expr.{Expr}
+use Rattle.kt_tree.specs.declared.ast.body.ExprKind.{ExprKind}
+use Rattle.kt_tree.specs.declared.ast.body.Stmt.{Stmt}
+use Rattle.kt_tree.specs.declared.ast.body.Block.{Block}
+use Rattle.kt_tree.specs.declared.ast.body.Branch.{Branch}
+use Rattle.kt_tree.specs.declared.ast.body.StringPart.{StringPart}
+use Rattle.kt_tree.specs.declared.ast.body.Branch.TheOpen.{Branch-F, Condition-F, ExprKind-F, Stmt-F, StringPart-F, Block-F, Catch-F, Expr-F, Lambda-F, Subject-F, WhenBranch-F}
+use Rattle.kt_tree.specs.declared.ast.body.Branch.TheFolds.{fold-Expr, fold-ExprKind, fold-Stmt, fold-Block, fold-Branch, fold-StringPart}
+use Rattle.kt_model.specs.declared.uses.Named.{Named}
+use Rattle.kt_model.specs.declared.uses.Named.TheVariants as named
+
+-- What a tree does with the values of its parts, where that is all. A template has the bytes of its texts, and `None` where a part stands; the call of a
+-- built-in function has its name's number, and whether it returns.
+pub data Operation : Type 0 where
+  Int' : (k : ℕ) → Operation
+  Bool' : (b : Bool) → Operation
+  Null' : Operation
+  Template' : (texts : List (Option (List ℕ))) → Operation
+  Sign' : (sign : Sign) → Operation
+  Sum' : Operation
+  Arithmetic' : (operator : Arithmetic) → Operation
+  Compare' : (operator : Comparison) → Operation
+  Equal' : (operator : Equality) → Operation
+  BuiltIn' : (name : ℕ) (returns : Bool) → Operation
+
+-- A local is known by its declaration, and where a tree names one, `at` is that name's span. An assignment is `fixed` where its local is a `val`. A
+-- compound assignment reads its local first; its operand is not written in `x++` and `x--`. A call `returns` unless its function is declared `Nothing`.
+mutual
+  pub data Tree : Type 0 where
+    Operation' : (n : ℕ) (operation : Operation) (parts : Trees) → Tree
+    Name' : (n : ℕ) (at : Span) (x : ℕ) → Tree
+    Paren' : (n : ℕ) (e : Tree) → Tree
+    Not' : (n : ℕ) (e : Tree) → Tree
+    And' : (n : ℕ) (a b : Tree) → Tree
+    Or' : (n : ℕ) (a b : Tree) → Tree
+    If' : (n : ℕ) (c : Tree) (a b : Trees) → Tree
+    Declare' : (n x : ℕ) → Tree
+    Local' : (n : ℕ) (at : Span) (x : ℕ) (e : Tree) → Tree
+    Assign' : (n : ℕ) (at : Span) (x : ℕ) (fixed : Bool) (e : Tree) → Tree
+    Compound' : (n : ℕ) (at : Span) (x : ℕ) (fixed : Bool) (operation : Operation) (operand : Trees) → Tree
+    Call' : (n f : ℕ) (returns : Bool) (arguments : Trees) → Tree
+    Return' : (n : ℕ) (value : Trees) → Tree
+    Throw' : (n : ℕ) (e : Tree) → Tree
+    Shut' : (n : ℕ) → Tree
+
+  -- trees one behind another: the statements of a block, the parts of a tree
+  pub data Trees : Type 0 where
+    Empty' : Trees
+    First' : (t : Tree) (rest : Trees) → Trees
+
+abbrev pub number : Tree → ℕ
+number (Operation' n operation parts) = n
+number (Name' n at x) = n
+number (Paren' n e) = n
+number (Not' n e) = n
+number (And' n a b) = n
+number (Or' n a b) = n
+number (If' n c a b) = n
+number (Declare' n x) = n
+number (Local' n at x e) = n
+number (Assign' n at x fixed e) = n
+number (Compound' n at x fixed operation operand) = n
+number (Call' n f returns arguments) = n
+number (Return' n value) = n
+number (Throw' n e) = n
+number (Shut' n) = n
+
+abbrev pub listed : List Tree → Trees
+listed [] = Empty'
+listed (t ∷ ts) = First' t (listed ts)
+
+abbrev pub optional : Option Tree → Trees
+optional (Some t) = First' t Empty'
+optional None = Empty'
+
+abbrev pub otherwise : Option Trees → Trees
+otherwise (Some ts) = ts
+otherwise None = Empty'
+
+-- ---- from the trees of a file, given what the name in each tree stands for
+
+-- An expression as it is seen from around it: its tree, and its span where it is a name alone. An assigned name is no tree, so that of the target is not
+-- looked at.
+pub record Seen : Type 0 where
+  pub tree : Tree
+  pub name : Option Span
+
+pub record SeenKind : Type 0 where
+  pub tree_at : ℕ → Span → Tree
+  pub is_name : Bool
+
+-- a part of a string
+pub data Piece : Type 0 where
+  Text' : (bytes : List ℕ) → Piece
+  Inserted' : (t : Tree) → Piece
+
+abbrev pub texts_of : List Piece → List (Option (List ℕ))
+texts_of [] = []
+texts_of (Text' bytes ∷ rest) = Some bytes ∷ texts_of rest
+texts_of (Inserted' t ∷ rest) = None ∷ texts_of rest
+
+abbrev pub inserted_of : List Piece → Trees
+inserted_of [] = Empty'
+inserted_of (Text' bytes ∷ rest) = inserted_of rest
+inserted_of (Inserted' t ∷ rest) = First' t (inserted_of rest)
+
+abbrev pub seen_trees : List Seen → Trees
+seen_trees [] = Empty'
+seen_trees (e ∷ rest) = First' e.tree (seen_trees rest)
+
+abbrev pub seen_optional : Option Seen → Trees
+seen_optional (Some e) = First' e.tree Empty'
+seen_optional None = Empty'
+
+abbrev pub plain : (ℕ → Span → Tree) → SeenKind
+plain f = record { tree_at = f; is_name = false }
+
+abbrev pub operation : Operation → Trees → SeenKind
+operation o parts = plain (λ n at. Operation' n o parts)
+
+abbrev pub shut : SeenKind
+shut = plain (λ n at. Shut' n)
+
+-- a name that stands alone
+abbrev pub name_tree : Named → ℕ → Span → Tree
+name_tree (named.Variable x fixed) n at = Name' n at x
+name_tree _ n at = Shut' n
+
+-- a call without a lambda
+abbrev pub call_tree : Named → Trees → ℕ → Tree
+call_tree (named.Function f returns) arguments n = Call' n f returns arguments
+call_tree (named.BuiltIn name returns) arguments n = Operation' n (BuiltIn' name returns) arguments
+call_tree _ arguments n = Shut' n
+
+abbrev pub kind_step : (ℕ → Named) → ExprKind-F Trees (Unit {0}) SeenKind Tree Piece Trees (Unit {0}) Seen (Unit {0}) (Unit {0}) (Unit {0}) → SeenKind
+kind_step uses (ExprKind-F.Int k) = operation (Int' k) Empty'
+kind_step uses (ExprKind-F.Bool b) = operation (Bool' b) Empty'
+kind_step uses ExprKind-F.Null = operation Null' Empty'
+kind_step uses (ExprKind-F.Name x) = record { tree_at = λ n at. name_tree (uses n) n at; is_name = true }
+kind_step uses (ExprKind-F.Template pieces) = operation (Template' (texts_of pieces)) (inserted_of pieces)
+kind_step uses (ExprKind-F.Paren e) = plain (λ n at. Paren' n e.tree)
+kind_step uses (ExprKind-F.Call callee arguments None) = plain (λ n at. call_tree (uses n) (seen_trees arguments) n)
+kind_step uses (ExprKind-F.Sign sign e) = operation (Sign' sign) (First' e.tree Empty')
+kind_step uses (ExprKind-F.Not e) = plain (λ n at. Not' n e.tree)
+kind_step uses (ExprKind-F.Sum a b) = operation Sum' (First' a.tree (First' b.tree Empty'))
+kind_step uses (ExprKind-F.Arithmetic o a b) = operation (Arithmetic' o) (First' a.tree (First' b.tree Empty'))
+kind_step uses (ExprKind-F.Compare o a b) = operation (Compare' o) (First' a.tree (First' b.tree Empty'))
+kind_step uses (ExprKind-F.Equal o a b) = operation (Equal' o) (First' a.tree (First' b.tree Empty'))
+kind_step uses (ExprKind-F.And a b) = plain (λ n at. And' n a.tree b.tree)
+kind_step uses (ExprKind-F.Or a b) = plain (λ n at. Or' n a.tree b.tree)
+kind_step uses (ExprKind-F.If c a b) = plain (λ n at. If' n c.tree a (otherwise b))
+kind_step uses (ExprKind-F.Return None value) = plain (λ n at. Return' n (seen_optional value))
+kind_step uses (ExprKind-F.Throw e) = plain (λ n at. Throw' n e.tree)
+kind_step uses _ = shut
+
+abbrev pub local_tree : Named → ℕ → Span → Option Seen → Tree
+local_tree (named.Variable x fixed) n at None = Declare' n x
+local_tree (named.Variable x fixed) n at (Some e) = Local' n at x e.tree
+local_tree _ n at e = Shut' n
+
+-- how a compound assignment makes its value
+abbrev pub compound_of : Assignment → Option Operation
+compound_of assignment.Plain = None
+compound_of assignment.Sum = Some Sum'
+compound_of (assignment.Arithmetic o) = Some (Arithmetic' o)
+
+abbrev pub assigned_tree : ℕ → Span → ℕ → Bool → Option Operation → Option Seen → Tree
+assigned_tree n at x fixed None (Some e) = Assign' n at x fixed e.tree
+assigned_tree n at x fixed None None = Shut' n
+assigned_tree n at x fixed (Some o) e = Compound' n at x fixed o (seen_optional e)
+
+-- an assignment of a name
+abbrev pub assign_tree : Named → ℕ → Option Span → Assignment → Option Seen → Tree
+assign_tree (named.Variable x fixed) n (Some at) a e = assigned_tree n at x fixed (compound_of a) e
+assign_tree _ n at a e = Shut' n
+
+abbrev pub stmt_step : (ℕ → Named) → Stmt-F Trees (Unit {0}) SeenKind Tree Piece Trees (Unit {0}) Seen (Unit {0}) (Unit {0}) (Unit {0}) → Tree
+stmt_step uses (Stmt-F.Expr e) = e.tree
+stmt_step uses (Stmt-F.Local n span is_var ident written e) = local_tree (uses n) n ident.span e
+stmt_step uses (Stmt-F.Assign n span target a e) = assign_tree (uses n) n target.name a e
+stmt_step uses (Stmt-F.While n span c b) = Shut' n
+stmt_step uses (Stmt-F.DoWhile n span b c) = Shut' n
+stmt_step uses (Stmt-F.For n span x written low p high b) = Shut' n
+
+abbrev pub branch_step : Branch-F Trees (Unit {0}) SeenKind Tree Piece Trees (Unit {0}) Seen (Unit {0}) (Unit {0}) (Unit {0}) → Trees
+branch_step (Branch-F.Braced b) = b
+branch_step (Branch-F.Single t) = First' t Empty'
+
+abbrev pub piece_step : StringPart-F Trees (Unit {0}) SeenKind Tree Piece Trees (Unit {0}) Seen (Unit {0}) (Unit {0}) (Unit {0}) → Piece
+piece_step (StringPart-F.Text bytes) = Text' bytes
+piece_step (StringPart-F.Inserted e) = Inserted' e.tree
+
+abbrev pub block_step : Block-F Trees (Unit {0}) SeenKind Tree Piece Trees (Unit {0}) Seen (Unit {0}) (Unit {0}) (Unit {0}) → Trees
+block_step b = listed b.statements
+
+abbrev pub name_span : Bool → Span → Option Span
+name_span true at = Some at
+name_span false at = None
+
+abbrev pub expr_step : Expr-F Trees (Unit {0}) SeenKind Tree Piece Trees (Unit {0}) Seen (Unit {0}) (Unit {0}) (Unit {0}) → Seen
+expr_step e = record { tree = e.kind.tree_at e.number e.span; name = name_span e.kind.is_name e.span }
+
+-- what has no tree yet
+abbrev pub nothing : {X : Type 0} → X → Unit {0}
+nothing x = tt
+
+-- an expression, given what the name in each tree stands for
+unfoldable pub seen : (ℕ → Named) → Expr → Seen
+seen uses = fold-Expr Trees (Unit {0}) SeenKind Tree Piece Trees (Unit {0}) Seen (Unit {0}) (Unit {0}) (Unit {0}) branch_step nothing (kind_step uses) (stmt_step uses) piece_step block_step nothing expr_step nothing nothing nothing
+
+unfoldable pub seen_kind : (ℕ → Named) → ExprKind → SeenKind
+seen_kind uses = fold-ExprKind Trees (Unit {0}) SeenKind Tree Piece Trees (Unit {0}) Seen (Unit {0}) (Unit {0}) (Unit {0}) branch_step nothing (kind_step uses) (stmt_step uses) piece_step block_step nothing expr_step nothing nothing nothing
+
+unfoldable pub stmt_tree : (ℕ → Named) → Stmt → Tree
+stmt_tree uses = fold-Stmt Trees (Unit {0}) SeenKind Tree Piece Trees (Unit {0}) Seen (Unit {0}) (Unit {0}) (Unit {0}) branch_step nothing (kind_step uses) (stmt_step uses) piece_step block_step nothing expr_step nothing nothing nothing
+
+unfoldable pub block_trees : (ℕ → Named) → Block → Trees
+block_trees uses = fold-Block Trees (Unit {0}) SeenKind Tree Piece Trees (Unit {0}) Seen (Unit {0}) (Unit {0}) (Unit {0}) branch_step nothing (kind_step uses) (stmt_step uses) piece_step block_step nothing expr_step nothing nothing nothing
+
+unfoldable pub branch_trees : (ℕ → Named) → Branch → Trees
+branch_trees uses = fold-Branch Trees (Unit {0}) SeenKind Tree Piece Trees (Unit {0}) Seen (Unit {0}) (Unit {0}) (Unit {0}) branch_step nothing (kind_step uses) (stmt_step uses) piece_step block_step nothing expr_step nothing nothing nothing
+
+unfoldable pub piece : (ℕ → Named) → StringPart → Piece
+piece uses = fold-StringPart Trees (Unit {0}) SeenKind Tree Piece Trees (Unit {0}) Seen (Unit {0}) (Unit {0}) (Unit {0}) branch_step nothing (kind_step uses) (stmt_step uses) piece_step block_step nothing expr_step nothing nothing nothing
+
+abbrev pub expr_tree : (ℕ → Named) → Expr → Tree
+expr_tree uses e = (seen uses e).tree
