@@ -1,6 +1,7 @@
 //! Making phrases of those that were read.
-ghost use Rattle.std.specs.Prelude.{◌≡◌, OnOk};
+ghost use Rattle.std.specs.Prelude.{◌≡◌, ◌<◌, ◌+◌, [], OnOk, IfOk};
 ghost use Rattle.kt_tree.specs.Derives as spec;
+ghost use Rattle.kt_tree.specs.declared.grammar.phrase.Form.TheVariants as form;
 
 use kt_tree::grammar::{Form, Phrase, State, Values};
 use sqlite_items::Items;
@@ -73,10 +74,8 @@ fn tallest(parts: &[Phrase]) -> u32
     ensures { result ≡ spec.tallest parts.now }
 {
     let mut height = 0;
-    let mut rest = parts;
-    'parts: while let Some((last, front)) = rest.split_last() {
-        height = last.height.max(height);
-        rest = front;
+    for part in parts {
+        height = height.max(part.height);
     }
     height
 }
@@ -103,10 +102,8 @@ fn tallest_target(parts: &[Phrase]) -> u32
     ensures { result ≡ spec.tallest_target parts.now }
 {
     let mut height = 0;
-    let mut rest = parts;
-    'parts: while let Some((last, front)) = rest.split_last() {
-        height = target_height(last).max(height);
-        rest = front;
+    for part in parts {
+        height = height.max(target_height(part));
     }
     height
 }

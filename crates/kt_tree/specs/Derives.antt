@@ -1,7 +1,7 @@
 -- What a list of symbols reads from a place on: every token that it takes, each choice being the row of its nonterminal and the
 -- class of the next token; or the fault at the first token that does not fit. The Kotlin specification's "Syntax and grammar";
 -- the bounds on height and depth and their places are this project's own.
-use Rattle.std.specs.Prelude.{◌≡◌, ℕ, ◌+◌, ◌-◌, Bool, true, false, ◌||◌, ◌&&◌, not, max, nat_le, nat_lt, is_some, if◌then◌else◌, List, [], ◌∷◌, ◌++◌, take, drop, reverse, slice_get, Option, Some, None, Result, Ok, Err}
+use Rattle.std.specs.Prelude.{◌≡◌, ◌≢◌, ℕ, ◌+◌, ◌-◌, Bool, true, false, ◌||◌, ◌&&◌, not, max, nat_le, nat_lt, is_some, if◌then◌else◌, List, [], ◌∷◌, ◌++◌, take, drop, reverse, slice_get, Option, Some, None, Result, Ok, Err}
 use Rattle.kt_tree.specs.declared.token.Token.{Token}
 use Rattle.kt_tree.specs.declared.tokens.Tokens.{Tokens}
 use Rattle.kt_tree.specs.declared.grammar.terminal.Terminal.{Terminal}
@@ -218,3 +218,8 @@ Answers ts (Ok p) = Derives ts p
 Answers ts (Err (Syntax token)) = FaultAt ts (Syntax token)
 Answers ts (Err (TooDeep token)) = FaultAt ts (TooDeep token)
 Answers ts (Err NoMemory) = Unit {0}
+
+-- and what is so is answered
+pub record Only (ts : Tokens) (r : Result Phrase ParseFault) : Type 0 where
+  pub phrase : (p : Phrase) → Derives ts p → r ≢ Err NoMemory → r ≡ Ok p
+  pub fault : (f : ParseFault) → FaultAt ts f → r ≢ Err NoMemory → r ≡ Err f
