@@ -4,7 +4,7 @@ ghost use Rattle.std.specs.Option.{option_map};
 ghost use Rattle.kt_tree.specs.Grammar as spec;
 
 use crate::rows::row;
-use kt_tree::grammar::Step::{Add, Enter, Keep, KeepChosen, Leave, Make, Separated, Take};
+use kt_tree::grammar::Step::{Add, Enter, Keep, KeepChosen, Leave, Make, Separated, Take, Target};
 use kt_tree::grammar::Symbol::{Do, Part};
 use kt_tree::grammar::{Class, Form as F, Nonterminal as N, Production as P, Symbol, Terminal as T};
 
@@ -78,8 +78,8 @@ pub fn symbols(production: P) -> &'static [Symbol]
         P::DoWhile => &[Do(Keep(T::Do)), Part(N::Block), Do(Take(T::While)), Do(Take(T::OpenRound)), Part(N::Expression), Do(Take(T::CloseRound)), Do(Make(F::DoWhile, 3))],
         P::For => &[Do(Keep(T::For)), Do(Take(T::OpenRound)), Do(Keep(T::Id)), Part(N::LocalType), Do(Take(T::In)), Part(N::Sum), Part(N::Progression), Part(N::Sum), Do(Take(T::CloseRound)), Part(N::Inner), Do(Make(F::For, 7))],
         P::Progression => &[Do(KeepChosen)],
-        P::Assigns => &[Do(Make(F::Target, 1)), Do(KeepChosen), Part(N::Expression), Do(Make(F::Assignment, 3))],
-        P::Counts => &[Do(Make(F::Target, 1)), Do(KeepChosen), Do(Make(F::Absent, 0)), Do(Make(F::Assignment, 3))],
+        P::Assigns => &[Do(Target), Do(KeepChosen), Part(N::Expression), Do(Make(F::Assignment, 3))],
+        P::Counts => &[Do(Target), Do(KeepChosen), Do(Make(F::Absent, 0)), Do(Make(F::Assignment, 3))],
         P::InnerBlock => &[Part(N::Block)],
         P::InnerLoop => &[Part(N::Loop)],
         P::InnerAction => &[Part(N::Action)],

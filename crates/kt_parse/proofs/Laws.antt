@@ -6,7 +6,7 @@ use Rattle.kt_tree.specs.declared.grammar.production.Symbol.{Symbol}
 use Rattle.kt_tree.specs.declared.grammar.production.Symbol.TheVariants.{Do, Part}
 use Rattle.kt_tree.specs.declared.grammar.production.Nonterminal.{Nonterminal}
 use Rattle.kt_tree.specs.declared.grammar.production.Step.{Step}
-use Rattle.kt_tree.specs.declared.grammar.production.Step.TheVariants.{Take, Keep, KeepChosen, Separated, Enter, Leave, Make, Add}
+use Rattle.kt_tree.specs.declared.grammar.production.Step.TheVariants.{Take, Keep, KeepChosen, Separated, Enter, Leave, Make, Add, Target}
 use Rattle.kt_tree.specs.declared.grammar.terminal.Terminal.{Terminal}
 use Rattle.kt_tree.specs.declared.grammar.terminal.Class.{Class}
 use Rattle.kt_tree.specs.declared.grammar.fault.ParseFault.{ParseFault}
@@ -15,7 +15,7 @@ use Rattle.kt_tree.specs.declared.grammar.phrase.Phrase.{Phrase}
 use Rattle.kt_tree.specs.declared.grammar.phrase.State.{State}
 use Rattle.kt_tree.specs.Classes.{class_at, stands_for}
 use Rattle.kt_tree.specs.Grammar.{expansion}
-use Rattle.kt_tree.specs.Derives.{Reads, done, step, stop, part, part_stop, none, does, chosen, misfit, passed, is_at, is_separated, max_depth, moved, kept, whole, start, last_of, Derives, FaultAt, Answers, Only}
+use Rattle.kt_tree.specs.Derives.{Reads, done, step, stop, part, part_stop, none, does, chosen, misfit, passed, is_at, is_separated, max_depth, moved, kept, as_target, is_place, form_of, whole, start, last_of, Derives, FaultAt, Answers, Only}
 use Rattle.kt_tree.specs.declared.grammar.fault.ParseFault.TheVariants.{Syntax, TooDeep}
 use Rattle.kt_parse.specs.Engine.{is_silent, Does, Leads, Stops, Goes}
 use Rattle.kt_parse.specs.Reach.{reach}
@@ -95,12 +95,27 @@ does-takes ts KeepChosen s t h e = takes-one ts (is_some (slice_get ts.list s.at
 does-takes ts Separated s t h e = absurd cc
 does-takes ts Enter s t h e = absurd cc
 does-takes ts Leave s t h e = absurd cc
-does-takes ts (Make form count) s t h e = absurd cc
+does-takes ts (Make made count) s t h e = absurd cc
 does-takes ts Add s t h e = absurd cc
+does-takes ts Target s t h e = absurd cc
 
 stays : (b : Bool) (s u t : State) (f : ParseFault) → u.at ≡ s.at → cond b (Ok u) (Err f) ≡ Ok t → t.at ≡ s.at
 stays true s u t f p e = cc
 stays false s u t f p e = absurd cc
+
+target-by : (b : Bool) (s u : State) → u.at ≡ s.at → (cond b u s).at ≡ s.at
+target-by true s u e = e
+target-by false s u e = refl
+
+target-at : (ps : List Phrase) (s : State) → (as_target ps s).at ≡ s.at
+target-at [] s = refl
+target-at (p ∷ ps) s = target-by (is_place (form_of p)) s _ refl
+
+abbrev came : State → Result State ParseFault
+came s = Ok s
+
+came_one : (s t : State) → came s ≡ came t → s ≡ t
+came_one s t e = cc
 
 pub does-silent : (ts : Tokens) (x : Step) (s t : State) → is_silent x ≡ true → does ts x s ≡ Ok t → t.at ≡ s.at
 unfolding does
@@ -110,8 +125,9 @@ does-silent ts KeepChosen s t h e = absurd cc
 does-silent ts Separated s t h e = stays (is_separated ts s.at && not s.high) s s t (misfit s) refl e
 does-silent ts Enter s t h e = stays (nat_lt s.depth max_depth) s _ t _ refl e
 does-silent ts Leave s t h e = cc
-does-silent ts (Make form count) s t h e = cc
+does-silent ts (Make made count) s t h e = cc
 does-silent ts Add s t h e = cc
+does-silent ts Target s t h e = let p = came_one (as_target s.values s) t e in ap (λ v. v.at) (sym p) ∙ target-at s.values s
 
 -- ---- the functions of the engine
 
@@ -144,9 +160,6 @@ pub finished : (ts : Tokens) (k : List Symbol) (s : State) → k ≡ [] → Read
 finished ts k s e = subst (λ k. Reads ts k s (Ok s)) (sym e) done
 
 -- ---- the whole
-
-abbrev came : State → Result State ParseFault
-came s = Ok s
 
 abbrev failed : ParseFault → Result State ParseFault
 failed f = Err f

@@ -4,7 +4,7 @@ use Rattle.kt_tree.specs.declared.tokens.Tokens.{Tokens}
 use Rattle.kt_tree.specs.declared.grammar.terminal.Class.{Class}
 use Rattle.kt_tree.specs.declared.grammar.terminal.Terminal.TheVariants as t
 use Rattle.kt_tree.specs.declared.grammar.production.Step.{Step}
-use Rattle.kt_tree.specs.declared.grammar.production.Step.TheVariants.{Take, Keep, KeepChosen, Separated, Enter, Leave, Make, Add}
+use Rattle.kt_tree.specs.declared.grammar.production.Step.TheVariants.{Take, Keep, KeepChosen, Separated, Enter, Leave, Make, Add, Target}
 use Rattle.kt_tree.specs.declared.grammar.production.Symbol.{Symbol}
 use Rattle.kt_tree.specs.declared.grammar.production.Symbol.TheVariants.{Do, Part}
 use Rattle.kt_tree.specs.declared.grammar.fault.ParseFault.{ParseFault}

@@ -63,10 +63,15 @@ fn is_place(form: Form) -> bool
     matches!(form, Form::Name | Form::Member)
 }
 
-fn is_target(form: Form) -> bool
-    ensures { result ≡ spec.is_target form }
+/// What a phrase of this form is where it is assigned.
+fn target_form(form: Form) -> Form
+    ensures { result ≡ spec.target_form form }
 {
-    matches!(form, Form::Target)
+    match form {
+        Form::Name => Form::NameTarget,
+        Form::Member => Form::MemberTarget,
+        _ => form,
+    }
 }
 
 /// The greatest height of the phrases.
@@ -87,34 +92,11 @@ fn grown(height: u32) -> u32
     if height <= MAX_HEIGHT { height + 1 } else { height }
 }
 
-/// The height of what is assigned.
-fn target_height(phrase: &Phrase) -> u32
-    ensures { result ≡ spec.target_height phrase.now }
-{
-    if is_place(phrase.form) {
-        tallest(phrase.parts.as_slice())
-    } else {
-        phrase.height
-    }
-}
-
-fn tallest_target(parts: &[Phrase]) -> u32
-    ensures { result ≡ spec.tallest_target parts.now }
-{
-    let mut height = 0;
-    for part in parts {
-        height = height.max(target_height(part));
-    }
-    height
-}
-
 /// The height of a phrase of this form with these parts.
 fn height_as(form: Form, parts: &[Phrase]) -> u32
     ensures { result ≡ spec.height_as form parts.now }
 {
-    if is_target(form) {
-        tallest_target(parts)
-    } else if is_tree(form) {
+    if is_tree(form) {
         grown(tallest(parts))
     } else {
         tallest(parts)
@@ -138,7 +120,7 @@ pub fn make(state: &mut State, form: Form, count: usize) -> Result<(), AllocErro
     let parts = state.values.pop_many(count)?;
     let height = height_as(form, parts.as_slice());
     let first = begin_of(parts.as_slice(), state.at);
-    state.high = height > MAX_HEIGHT || (state.high && !is_target(form));
+    state.high = height > MAX_HEIGHT || state.high;
     state.values.push(Phrase {
         form,
         first,
@@ -180,6 +162,25 @@ pub fn add(values: &mut Values<Phrase>, at: u32) -> Result<(), AllocError>
         Some(list) => values.push(with_part(at, list, part)?),
         None => values.push(part),
     }
+}
+
+/// Makes the last phrase what is assigned.
+pub fn target(state: &mut State) -> Result<(), AllocError>
+    ensures { OnOk result (state.new ≡ spec.as_target state.old.values state.old) }
+{
+    let Some(last) = state.values.pop() else {
+        return Ok(());
+    };
+    if !is_place(last.form) {
+        return state.values.push(last);
+    }
+    state.high = false;
+    let height = tallest(last.parts.as_slice());
+    state.values.push(Phrase {
+        form: target_form(last.form),
+        height,
+        ..last
+    })
 }
 
 /// The token at this place as a phrase.

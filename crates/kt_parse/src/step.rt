@@ -5,7 +5,7 @@ ghost use Rattle.kt_tree.specs.Classes.{class_at};
 ghost use Rattle.kt_parse.specs.Engine as engine;
 ghost use Rattle.kt_tree.specs.declared.grammar.fault.ParseFault.TheVariants.{NoMemory};
 
-use crate::make::{add, make, token};
+use crate::make::{add, make, target, token};
 use kt_grammar::{same_terminal, stands_for};
 use kt_tree::Tokens;
 use kt_tree::grammar::{Class, Form, ParseFault, State, Step, Terminal};
@@ -133,6 +133,13 @@ fn add_part(state: &mut State) -> Result<(), ParseFault>
     Ok(())
 }
 
+fn make_target(state: &mut State) -> Result<(), ParseFault>
+    ensures { engine.Does (Ok (spec.as_target state.old.values state.old)) result state.new }
+{
+    target(state)?;
+    Ok(())
+}
+
 /// Does one step before the next token, which is of this class.
 #[tactic(auto, unfolding(kt_tree::specs::Derives::does))]
 pub fn do_step(
@@ -157,6 +164,7 @@ pub fn do_step(
         }
         Step::Make(form, count) => make_phrase(form, count, state),
         Step::Add => add_part(state),
+        Step::Target => make_target(state),
     }
 }
 

@@ -15,7 +15,7 @@ use Rattle.kt_tree.specs.declared.grammar.fault.ParseFault.TheVariants.{Syntax, 
 use Rattle.kt_tree.specs.declared.grammar.production.Nonterminal.{Nonterminal}
 use Rattle.kt_tree.specs.declared.grammar.production.Nonterminal.TheVariants as n
 use Rattle.kt_tree.specs.declared.grammar.production.Step.{Step}
-use Rattle.kt_tree.specs.declared.grammar.production.Step.TheVariants.{Take, Keep, KeepChosen, Separated, Enter, Leave, Make, Add}
+use Rattle.kt_tree.specs.declared.grammar.production.Step.TheVariants.{Take, Keep, KeepChosen, Separated, Enter, Leave, Make, Add, Target}
 use Rattle.kt_tree.specs.declared.grammar.production.Symbol.{Symbol}
 use Rattle.kt_tree.specs.declared.grammar.production.Symbol.TheVariants.{Do, Part}
 use Rattle.kt_tree.specs.Classes.{class_at, stands_for, same_terminal}
@@ -31,6 +31,9 @@ form_of p = (out-Phrase p).form
 
 abbrev pub first_of : Phrase → ℕ
 first_of p = (out-Phrase p).first
+
+abbrev pub end_of : Phrase → ℕ
+end_of p = (out-Phrase p).last
 
 abbrev pub height_of : Phrase → ℕ
 height_of p = (out-Phrase p).height
@@ -85,9 +88,10 @@ is_place f.Name = true
 is_place f.Member = true
 is_place _ = false
 
-abbrev pub is_target : Form → Bool
-is_target f.Target = true
-is_target _ = false
+abbrev pub target_form : Form → Form
+target_form f.Name = f.NameTarget
+target_form f.Member = f.MemberTarget
+target_form x = x
 
 abbrev pub tallest : List Phrase → ℕ
 tallest [] = 0
@@ -100,19 +104,8 @@ max_height = 200
 abbrev pub grown : ℕ → ℕ
 grown height = if nat_le height max_height then height + 1 else height
 
--- the height of what is assigned, which is no tree where it is a name or a member behind `.`
-abbrev pub target_height : Phrase → ℕ
-target_height p = if is_place (form_of p) then tallest (parts_of p) else height_of p
-
-abbrev pub tallest_target : List Phrase → ℕ
-tallest_target [] = 0
-tallest_target (p ∷ ps) = max (target_height p) (tallest_target ps)
-
 abbrev pub height_as : Form → List Phrase → ℕ
-height_as form parts =
-    if is_target form then tallest_target parts
-    else if is_tree form then grown (tallest parts)
-    else tallest parts
+height_as form parts = if is_tree form then grown (tallest parts) else tallest parts
 
 abbrev pub begin_of : List Phrase → ℕ → ℕ
 begin_of [] at = at
@@ -130,7 +123,7 @@ whole_phrase form at parts = phrase form (begin_of parts at) at (height_as form 
 -- a phrase of the last so many
 abbrev pub with_phrase : Form → ℕ → List Phrase → State → State
 with_phrase form count parts s = record s {
-  high = not (nat_le (height_as form parts) max_height) || (s.high && not (is_target form));
+  high = not (nat_le (height_as form parts) max_height) || s.high;
   values = whole_phrase form s.at parts ∷ drop count s.values;
 }
 
@@ -143,6 +136,14 @@ with_part at list part = phrase (form_of list) (first_of list) at (max (height_o
 abbrev pub added : ℕ → List Phrase → List Phrase
 added at (part ∷ list ∷ rest) = with_part at list part ∷ rest
 added at values = values
+
+-- what is assigned, without its own height where it is no tree
+abbrev pub targeted : Phrase → Phrase
+targeted p = phrase (target_form (form_of p)) (first_of p) (end_of p) (tallest (parts_of p)) (parts_of p)
+
+abbrev pub as_target : List Phrase → State → State
+as_target [] s = s
+as_target (p ∷ rest) s = if is_place (form_of p) then record s { high = false; values = targeted p ∷ rest } else s
 
 -- the next token is kept as a phrase
 abbrev pub kept : State → State
@@ -183,6 +184,7 @@ does ts Enter s = enter s
 does ts Leave s = Ok (record s { depth = s.depth - 1 })
 does ts (Make form count) s = Ok (made form count s)
 does ts Add s = Ok (record s { values = added s.at s.values })
+does ts Target s = Ok (as_target s.values s)
 
 -- ---- reading
 

@@ -15,7 +15,7 @@ use Rattle.kt_tree.specs.declared.grammar.production.First.TheVariants as first
 use Rattle.kt_tree.specs.declared.grammar.production.Need.{Need}
 use Rattle.kt_tree.specs.declared.grammar.production.Need.TheVariants as need
 use Rattle.kt_tree.specs.declared.grammar.production.Row.{Row}
-use Rattle.kt_tree.specs.declared.grammar.production.Step.TheVariants.{Take, Keep, KeepChosen, Separated, Enter, Leave, Make, Add}
+use Rattle.kt_tree.specs.declared.grammar.production.Step.TheVariants.{Take, Keep, KeepChosen, Separated, Enter, Leave, Make, Add, Target}
 use Rattle.kt_tree.specs.declared.grammar.production.Symbol.{Symbol}
 use Rattle.kt_tree.specs.declared.grammar.production.Symbol.TheVariants.{Do, Part}
 use Rattle.kt_tree.specs.declared.grammar.production.TheConstants.{OPEN}
@@ -235,8 +235,8 @@ symbols p.While = Do (Keep t.While) ∷ Do (Take t.OpenRound) ∷ Part n.Express
 symbols p.DoWhile = Do (Keep t.Do) ∷ Part n.Block ∷ Do (Take t.While) ∷ Do (Take t.OpenRound) ∷ Part n.Expression ∷ Do (Take t.CloseRound) ∷ Do (Make f.DoWhile 3) ∷ []
 symbols p.For = Do (Keep t.For) ∷ Do (Take t.OpenRound) ∷ Do (Keep t.Id) ∷ Part n.LocalType ∷ Do (Take t.In) ∷ Part n.Sum ∷ Part n.Progression ∷ Part n.Sum ∷ Do (Take t.CloseRound) ∷ Part n.Inner ∷ Do (Make f.For 7) ∷ []
 symbols p.Progression = Do KeepChosen ∷ []
-symbols p.Assigns = Do (Make f.Target 1) ∷ Do KeepChosen ∷ Part n.Expression ∷ Do (Make f.Assignment 3) ∷ []
-symbols p.Counts = Do (Make f.Target 1) ∷ Do KeepChosen ∷ Do (Make f.Absent 0) ∷ Do (Make f.Assignment 3) ∷ []
+symbols p.Assigns = Do Target ∷ Do KeepChosen ∷ Part n.Expression ∷ Do (Make f.Assignment 3) ∷ []
+symbols p.Counts = Do Target ∷ Do KeepChosen ∷ Do (Make f.Absent 0) ∷ Do (Make f.Assignment 3) ∷ []
 symbols p.InnerBlock = Part n.Block ∷ []
 symbols p.InnerLoop = Part n.Loop ∷ []
 symbols p.InnerAction = Part n.Action ∷ []

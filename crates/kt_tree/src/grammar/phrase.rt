@@ -52,7 +52,6 @@ pub enum Form {
     Returns,
     ReturnsNotNull,
     CallsInPlace,
-    Target,
     Absent,
     Subject,
     SubjectName,
@@ -73,6 +72,8 @@ pub enum Form {
     Block,
     LambdaParameter,
     Catch,
+    NameTarget,
+    MemberTarget,
     Token,
 }
 

@@ -410,6 +410,8 @@ pub enum Step {
     Make(Form, usize),
     /// Puts the last phrase into the one before it, which is a list.
     Add,
+    /// Makes the last phrase what is assigned, which is no tree where it is a name or a member behind `.`.
+    Target,
 }
 
 #[derive(Clone, Copy)]

@@ -1,6 +1,0 @@
-use Rattle.std.proofs.Common.{◌≡◌, max, drop}
-use Rattle.kt_tree.specs.Derives as spec
-use Rattle.kt_parse.proofs.make.tallest_target.Given as goal
-
-abbrev pub invariant-loop-part : goal.invariant-loop-part
-invariant-loop-part l = max l.height (spec.tallest_target (drop l.part-index l.parts)) ≡ spec.tallest_target l.parts
