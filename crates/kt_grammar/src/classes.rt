@@ -169,7 +169,31 @@ fn is_identifier(terminal: T) -> bool
     ensures { result ≡ spec.is_identifier terminal }
 {
     match terminal {
-        T::Id | T::Import | T::Kotlin | T::Contracts | T::ExperimentalContracts | T::OptIn | T::Public | T::Private | T::Open | T::Abstract | T::Final | T::Override | T::Inline | T::Init | T::Get | T::Until | T::DownTo | T::Catch | T::Finally | T::Contract | T::Returns | T::ReturnsNotNull | T::CallsInPlace | T::InvocationKind | T::Implies => true,
+        T::Id
+        | T::Import
+        | T::Kotlin
+        | T::Contracts
+        | T::ExperimentalContracts
+        | T::OptIn
+        | T::Public
+        | T::Private
+        | T::Open
+        | T::Abstract
+        | T::Final
+        | T::Override
+        | T::Inline
+        | T::Init
+        | T::Get
+        | T::Until
+        | T::DownTo
+        | T::Catch
+        | T::Finally
+        | T::Contract
+        | T::Returns
+        | T::ReturnsNotNull
+        | T::CallsInPlace
+        | T::InvocationKind
+        | T::Implies => true,
         _ => false,
     }
 }
@@ -179,7 +203,24 @@ pub fn begins_expression(terminal: T) -> bool
     ensures { result ≡ spec.begins_expression terminal }
 {
     match terminal {
-        T::Int | T::True | T::False | T::Null | T::This | T::OpenString | T::OpenRound | T::If | T::When | T::Try | T::Return | T::ReturnAt | T::Throw | T::Break | T::Continue | T::Minus | T::Plus | T::Not => true,
+        T::Int
+        | T::True
+        | T::False
+        | T::Null
+        | T::This
+        | T::OpenString
+        | T::OpenRound
+        | T::If
+        | T::When
+        | T::Try
+        | T::Return
+        | T::ReturnAt
+        | T::Throw
+        | T::Break
+        | T::Continue
+        | T::Minus
+        | T::Plus
+        | T::Not => true,
         _ => is_identifier(terminal),
     }
 }
@@ -189,13 +230,25 @@ fn meaning(terminal: T, next: T) -> T
     ensures { result ≡ spec.meaning terminal next }
 {
     if wants_brace(terminal) {
-        return if same_terminal(next, T::OpenBrace) { terminal } else { T::Id };
+        return if same_terminal(next, T::OpenBrace) {
+            terminal
+        } else {
+            T::Id
+        };
     }
     if wants_round(terminal) {
-        return if same_terminal(next, T::OpenRound) { terminal } else { T::Id };
+        return if same_terminal(next, T::OpenRound) {
+            terminal
+        } else {
+            T::Id
+        };
     }
     if is_modifier(terminal) {
-        return if same_terminal(next, T::Colon) { T::Id } else { terminal };
+        return if same_terminal(next, T::Colon) {
+            T::Id
+        } else {
+            terminal
+        };
     }
     match terminal {
         T::Else => {

@@ -4,10 +4,12 @@
 #![tactic(auto)]
 
 mod classes;
+mod forms;
 mod rows;
 mod symbols;
 mod words;
 
 pub use classes::{class_of, same_terminal, stands_for};
+pub use forms::is_tree;
 pub use rows::row;
 pub use symbols::expansion;

@@ -2,59 +2,15 @@
 ghost use Rattle.std.specs.Prelude.{◌≡◌, ◌<◌, ◌+◌, [], OnOk, IfOk};
 ghost use Rattle.kt_tree.specs.Derives as spec;
 ghost use Rattle.kt_tree.specs.declared.grammar.phrase.Form.TheVariants as form;
+ghost use Rattle.kt_tree.specs.declared.grammar.phrase.Form.TheVariants as form;
 
+use kt_grammar::is_tree;
 use kt_tree::grammar::{Form, Phrase, State, Values};
 use sqlite_items::Items;
 use std::alloc::{AllocError, Global};
 
 /// The greatest height of a tree.
 const MAX_HEIGHT: u32 = 200;
-
-/// Whether phrases of this form are trees.
-fn is_tree(form: Form) -> bool
-    ensures { result ≡ spec.is_tree form }
-{
-    match form {
-        Form::Int
-        | Form::Bool
-        | Form::Null
-        | Form::This
-        | Form::Name
-        | Form::Template
-        | Form::Paren
-        | Form::Call
-        | Form::Lambda
-        | Form::Member
-        | Form::SafeMember
-        | Form::MemberCall
-        | Form::SafeMemberCall
-        | Form::NotNull
-        | Form::Prefixed
-        | Form::Cast
-        | Form::Sum
-        | Form::Product
-        | Form::Compare
-        | Form::Equal
-        | Form::And
-        | Form::Or
-        | Form::Elvis
-        | Form::IsType
-        | Form::If
-        | Form::When
-        | Form::Try
-        | Form::Return
-        | Form::Throw
-        | Form::Jump
-        | Form::NamePiece
-        | Form::ThisPiece
-        | Form::Local
-        | Form::Assignment
-        | Form::While
-        | Form::DoWhile
-        | Form::For => true,
-        _ => false,
-    }
-}
 
 /// Whether a phrase of this form may be assigned, and is then no tree.
 fn is_place(form: Form) -> bool
@@ -89,7 +45,11 @@ fn tallest(parts: &[Phrase]) -> u32
 fn grown(height: u32) -> u32
     ensures { result ≡ spec.grown height }
 {
-    if height <= MAX_HEIGHT { height + 1 } else { height }
+    if height <= MAX_HEIGHT {
+        height + 1
+    } else {
+        height
+    }
 }
 
 /// The height of a phrase of this form with these parts.

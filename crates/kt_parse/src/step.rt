@@ -51,7 +51,12 @@ fn is_separated(class: Class) -> bool
         || same_terminal(class.terminal, Terminal::CloseBrace)
 }
 
-fn take(tokens: &Tokens, class: Class, expected: Terminal, state: &mut State) -> Result<(), ParseFault>
+fn take(
+    tokens: &Tokens,
+    class: Class,
+    expected: Terminal,
+    state: &mut State,
+) -> Result<(), ParseFault>
     requires { class ≡ class_at tokens.now state.old.at }
     ensures { engine.Does (spec.passed (spec.is_at tokens.now state.old.at expected) state.old (spec.moved state.old)) result state.new }
 {

@@ -297,7 +297,7 @@ symbols p.FinallyPart = Do (Take t.Finally) ∷ Part n.Block ∷ []
 -- What stands in a nonterminal's place where no row fits: its only alternative, or what an option or a repetition leaves
 -- that is passed over. `None` is a choice that must be made.
 unfoldable pub otherwise : Nonterminal → Option (List Symbol)
-otherwise n.File = Some (Part n.Semicolons ∷ Part n.Imports ∷ Do (Make f.List 0) ∷ Part n.Declarations ∷ Do (Take t.End) ∷ Do (Make f.File 1) ∷ [])
+otherwise n.File = Some (Part n.Semicolons ∷ Part n.Imports ∷ Do (Make f.List 0) ∷ Part n.Declarations ∷ Do (Take t.End) ∷ [])
 otherwise n.Semicolons = Some ([])
 otherwise n.Imports = Some ([])
 otherwise n.Imported = None

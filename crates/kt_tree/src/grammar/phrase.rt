@@ -58,7 +58,6 @@ pub enum Form {
     ElseBranch,
     ConditionBranch,
     TypeCondition,
-    File,
     Class,
     ClassParameter,
     Interface,
