@@ -7,6 +7,8 @@ mod classes;
 mod forms;
 mod rows;
 mod symbols;
+#[cfg(test)]
+mod tests;
 mod words;
 
 pub use classes::{class_of, same_terminal, stands_for};

@@ -1,13 +1,11 @@
 -- A list of symbols reads one outcome, and reads the parts of an expansion as the expansion.
-use Rattle.std.proofs.Common.{◌≡◌, ◌≢◌, ℕ, zero, suc, ◌+◌, ◌<◌, Bool, true, false, not, ◌&&◌, ◌||◌, cond, nat_lt, is_some, length, slice_get, arith, OnOk, List, [], ◌∷◌, ◌++◌, Option, Some, None, ◌⊎◌, inl, inr, Result, Ok, Err, refl, sym, subst, ap, ◌∙◌}
-use Rattle.kt_tree.specs.declared.token.Token.{Token}
+use Rattle.std.proofs.Common.{◌≡◌, ℕ, zero, suc, ◌+◌, ◌<◌, Bool, true, false, not, ◌&&◌, cond, nat_lt, is_some, length, slice_get, arith, OnOk, List, [], ◌∷◌, ◌++◌, Option, Some, None, ◌⊎◌, inl, inr, Result, Ok, Err, refl, sym, subst, ap, ◌∙◌}
 use Rattle.kt_tree.specs.declared.tokens.Tokens.{Tokens}
 use Rattle.kt_tree.specs.declared.grammar.production.Symbol.{Symbol}
 use Rattle.kt_tree.specs.declared.grammar.production.Symbol.TheVariants.{Do, Part}
 use Rattle.kt_tree.specs.declared.grammar.production.Nonterminal.{Nonterminal}
 use Rattle.kt_tree.specs.declared.grammar.production.Step.{Step}
 use Rattle.kt_tree.specs.declared.grammar.production.Step.TheVariants.{Take, Keep, KeepChosen, Separated, Enter, Leave, Make, Add, Target}
-use Rattle.kt_tree.specs.declared.grammar.terminal.Terminal.{Terminal}
 use Rattle.kt_tree.specs.declared.grammar.terminal.Class.{Class}
 use Rattle.kt_tree.specs.declared.grammar.fault.ParseFault.{ParseFault}
 use Rattle.kt_tree.specs.declared.grammar.fault.ParseFault.TheVariants.{NoMemory}
@@ -15,7 +13,7 @@ use Rattle.kt_tree.specs.declared.grammar.phrase.Phrase.{Phrase}
 use Rattle.kt_tree.specs.declared.grammar.phrase.State.{State}
 use Rattle.kt_tree.specs.Classes.{class_at, stands_for}
 use Rattle.kt_tree.specs.Grammar.{expansion}
-use Rattle.kt_tree.specs.Derives.{Reads, done, step, stop, part, part_stop, none, does, chosen, misfit, passed, is_at, is_separated, max_depth, moved, kept, as_target, is_place, form_of, whole, start, last_of, Derives, FaultAt, Answers, Only}
+use Rattle.kt_tree.specs.Derives.{Reads, done, step, stop, part, part_stop, none, does, chosen, misfit, passed, is_at, is_separated, max_depth, moved, kept, as_target, is_place, form_of, whole, start, last_of, FaultAt, Answers, Only}
 use Rattle.kt_tree.specs.declared.grammar.fault.ParseFault.TheVariants.{Syntax, TooDeep}
 use Rattle.kt_parse.specs.Engine.{is_silent, Does, Leads, Stops, Goes}
 use Rattle.kt_parse.specs.Reach.{reach}

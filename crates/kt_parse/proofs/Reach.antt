@@ -1,5 +1,5 @@
 -- Each expansion reaches fewer steps before the next token than its nonterminal is worth.
-use Rattle.std.proofs.Common.{◌≡◌, ◌≤◌, tests, ℕ, suc, rules, arith, cond, sym, subst, ◌+◌, ◌<◌, Bool, true, false, not, ◌&&◌, ◌||◌, ltb, List, [], ◌∷◌, ◌++◌, Option, Some, None, refl, ap}
+use Rattle.std.proofs.Common.{◌≡◌, ◌≤◌, tests, ℕ, rules, arith, cond, subst, ◌+◌, ◌<◌, Bool, true, false, not, ◌&&◌, ◌||◌, ltb, List, [], ◌∷◌, ◌++◌, Option, Some, None, refl}
 use Rattle.kt_tree.specs.declared.grammar.production.Symbol.{Symbol}
 use Rattle.kt_tree.specs.declared.grammar.production.Symbol.TheVariants.{Do, Part}
 use Rattle.kt_tree.specs.declared.grammar.terminal.Class.{Class}

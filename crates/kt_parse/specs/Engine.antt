@@ -1,12 +1,12 @@
 -- What a part of the engine leaves to be read.
-use Rattle.std.specs.Prelude.{◌≡◌, ◌≢◌, ℕ, Bool, true, false, ◌||◌, List, [], ◌∷◌, Option, Some, None, Result, Ok, Err}
+use Rattle.std.specs.Prelude.{◌≡◌, ◌≢◌, Bool, true, false, ◌||◌, List, ◌∷◌, Option, Some, None, Result, Ok, Err}
 use Rattle.kt_tree.specs.declared.tokens.Tokens.{Tokens}
 use Rattle.kt_tree.specs.declared.grammar.terminal.Class.{Class}
 use Rattle.kt_tree.specs.declared.grammar.terminal.Terminal.TheVariants as t
 use Rattle.kt_tree.specs.declared.grammar.production.Step.{Step}
-use Rattle.kt_tree.specs.declared.grammar.production.Step.TheVariants.{Take, Keep, KeepChosen, Separated, Enter, Leave, Make, Add, Target}
+use Rattle.kt_tree.specs.declared.grammar.production.Step.TheVariants.{Take, Keep, KeepChosen}
 use Rattle.kt_tree.specs.declared.grammar.production.Symbol.{Symbol}
-use Rattle.kt_tree.specs.declared.grammar.production.Symbol.TheVariants.{Do, Part}
+use Rattle.kt_tree.specs.declared.grammar.production.Symbol.TheVariants.{Do}
 use Rattle.kt_tree.specs.declared.grammar.fault.ParseFault.{ParseFault}
 use Rattle.kt_tree.specs.declared.grammar.fault.ParseFault.TheVariants.{NoMemory}
 use Rattle.kt_tree.specs.declared.grammar.phrase.State.{State}

@@ -7,6 +7,8 @@ mod engine;
 mod make;
 mod pending;
 mod step;
+#[cfg(test)]
+mod tests;
 
 pub use engine::read;
 pub use kt_tree::grammar::ParseFault;

@@ -1,6 +1,6 @@
 -- Reading the parts of a phrase, from the first to the last. A part of another kind than is asked for, which no production leads to,
 -- gives a blank.
-use Rattle.std.specs.Prelude.{◌≡◌, ℕ, zero, suc, ◌-◌, ◌+◌, Bool, true, false, List, [], ◌∷◌, Option, Some, None, slice_get, option_map, nat_lt, length, if◌then◌else◌}
+use Rattle.std.specs.Prelude.{◌≡◌, ℕ, zero, suc, ◌-◌, ◌+◌, Bool, true, false, List, [], ◌∷◌, Option, Some, None, slice_get, option_map, min, nat_lt, length, if◌then◌else◌}
 use Rattle.kt_tree.specs.Classes.{class_at}
 use Rattle.kt_tree.specs.declared.grammar.terminal.Terminal.{Terminal}
 use Rattle.kt_tree.specs.declared.grammar.terminal.Terminal.TheVariants as terminal
@@ -117,165 +117,255 @@ end_with a ps = a
 abbrev pub Gives : {A : Type 0} → Reader A → List Built → A → List Built → Type 0
 Gives r old a new = r old ≡ (a, new)
 
+abbrev pub token_in : Built → ℕ
+token_in (b.Token t) = t
+token_in _ = 0
+
 abbrev pub token : Reader ℕ
-token (b.Token t ∷ ps) = (t, ps)
-token (_ ∷ ps) = (0, ps)
+token (x ∷ ps) = (token_in x, ps)
 token [] = (0, [])
 
+abbrev pub count_in : Built → ℕ
+count_in (b.Count n) = n
+count_in _ = 0
+
 abbrev pub count : Reader ℕ
-count (b.Count n ∷ ps) = (n, ps)
-count (_ ∷ ps) = (0, ps)
+count (x ∷ ps) = (count_in x, ps)
 count [] = (0, [])
 
+abbrev pub written_in : Built → TypeRef
+written_in (b.Type t) = t
+written_in _ = blank_type
+
 abbrev pub written : Reader TypeRef
-written (b.Type t ∷ ps) = (t, ps)
-written (_ ∷ ps) = (blank_type, ps)
+written (x ∷ ps) = (written_in x, ps)
 written [] = (blank_type, [])
 
+abbrev pub expr_in : Built → Expr
+expr_in (b.Expr e) = e
+expr_in _ = blank_expr
+
 abbrev pub expr : Reader Expr
-expr (b.Expr e ∷ ps) = (e, ps)
-expr (_ ∷ ps) = (blank_expr, ps)
+expr (x ∷ ps) = (expr_in x, ps)
 expr [] = (blank_expr, [])
 
+abbrev pub stmt_in : Built → Stmt
+stmt_in (b.Stmt s) = s
+stmt_in (b.Expr e) = statement.Expr e
+stmt_in _ = statement.Expr blank_expr
+
 abbrev pub stmt : Reader Stmt
-stmt (b.Stmt s ∷ ps) = (s, ps)
-stmt (b.Expr e ∷ ps) = (statement.Expr e, ps)
-stmt (_ ∷ ps) = (statement.Expr blank_expr, ps)
+stmt (x ∷ ps) = (stmt_in x, ps)
 stmt [] = (statement.Expr blank_expr, [])
 
+abbrev pub block_in : Built → Block
+block_in (b.Block x) = x
+block_in _ = blank_block
+
 abbrev pub block : Reader Block
-block (b.Block x ∷ ps) = (x, ps)
-block (_ ∷ ps) = (blank_block, ps)
+block (x ∷ ps) = (block_in x, ps)
 block [] = (blank_block, [])
 
+abbrev pub branch_in : Built → Branch
+branch_in (b.Block x) = branches.Braced x
+branch_in (b.Stmt s) = branches.Single s
+branch_in (b.Expr e) = branches.Single (statement.Expr e)
+branch_in _ = branches.Single (statement.Expr blank_expr)
+
 abbrev pub branch : Reader Branch
-branch (b.Block x ∷ ps) = (branches.Braced x, ps)
-branch (b.Stmt s ∷ ps) = (branches.Single s, ps)
-branch (b.Expr e ∷ ps) = (branches.Single (statement.Expr e), ps)
-branch (_ ∷ ps) = (branches.Single (statement.Expr blank_expr), ps)
+branch (x ∷ ps) = (branch_in x, ps)
 branch [] = (branches.Single (statement.Expr blank_expr), [])
 
+abbrev pub lambda_parameter_in : Built → LambdaParameter
+lambda_parameter_in (b.LambdaParameter x) = x
+lambda_parameter_in _ = blank_lambda_parameter
+
 abbrev pub lambda_parameter : Reader LambdaParameter
-lambda_parameter (b.LambdaParameter x ∷ ps) = (x, ps)
-lambda_parameter (_ ∷ ps) = (blank_lambda_parameter, ps)
+lambda_parameter (x ∷ ps) = (lambda_parameter_in x, ps)
 lambda_parameter [] = (blank_lambda_parameter, [])
 
+abbrev pub when_branch_in : Built → WhenBranch
+when_branch_in (b.WhenBranch x) = x
+when_branch_in _ = blank_when_branch
+
 abbrev pub when_branch : Reader WhenBranch
-when_branch (b.WhenBranch x ∷ ps) = (x, ps)
-when_branch (_ ∷ ps) = (blank_when_branch, ps)
+when_branch (x ∷ ps) = (when_branch_in x, ps)
 when_branch [] = (blank_when_branch, [])
 
+abbrev pub condition_in : Built → Condition
+condition_in (b.Condition x) = x
+condition_in (b.Expr e) = conditions.Value e
+condition_in _ = conditions.Value blank_expr
+
 abbrev pub condition : Reader Condition
-condition (b.Condition x ∷ ps) = (x, ps)
-condition (b.Expr e ∷ ps) = (conditions.Value e, ps)
-condition (_ ∷ ps) = (conditions.Value blank_expr, ps)
+condition (x ∷ ps) = (condition_in x, ps)
 condition [] = (conditions.Value blank_expr, [])
 
+abbrev pub catch_in : Built → Catch
+catch_in (b.Catch x) = x
+catch_in _ = blank_catch
+
 abbrev pub catch : Reader Catch
-catch (b.Catch x ∷ ps) = (x, ps)
-catch (_ ∷ ps) = (blank_catch, ps)
+catch (x ∷ ps) = (catch_in x, ps)
 catch [] = (blank_catch, [])
 
+abbrev pub parameter_in : Built → Parameter
+parameter_in (b.Parameter x) = x
+parameter_in _ = blank_parameter
+
 abbrev pub parameter : Reader Parameter
-parameter (b.Parameter x ∷ ps) = (x, ps)
-parameter (_ ∷ ps) = (blank_parameter, ps)
+parameter (x ∷ ps) = (parameter_in x, ps)
 parameter [] = (blank_parameter, [])
 
+abbrev pub parameter_type_in : Built → ParameterType
+parameter_type_in (b.Type t) = kind.Value t
+parameter_type_in (b.FunctionType xs t) = kind.Function xs t
+parameter_type_in _ = kind.Value blank_type
+
 abbrev pub parameter_type : Reader ParameterType
-parameter_type (b.Type t ∷ ps) = (kind.Value t, ps)
-parameter_type (b.FunctionType xs t ∷ ps) = (kind.Function xs t, ps)
-parameter_type (_ ∷ ps) = (kind.Value blank_type, ps)
+parameter_type (x ∷ ps) = (parameter_type_in x, ps)
 parameter_type [] = (kind.Value blank_type, [])
 
+abbrev pub effect_in : Built → Effect
+effect_in (b.Effect x) = x
+effect_in _ = blank_effect
+
 abbrev pub effect : Reader Effect
-effect (b.Effect x ∷ ps) = (x, ps)
-effect (_ ∷ ps) = (blank_effect, ps)
+effect (x ∷ ps) = (effect_in x, ps)
 effect [] = (blank_effect, [])
 
+abbrev pub class_parameter_in : Built → ClassParameter
+class_parameter_in (b.ClassParameter x) = x
+class_parameter_in _ = blank_class_parameter
+
 abbrev pub class_parameter : Reader ClassParameter
-class_parameter (b.ClassParameter x ∷ ps) = (x, ps)
-class_parameter (_ ∷ ps) = (blank_class_parameter, ps)
+class_parameter (x ∷ ps) = (class_parameter_in x, ps)
 class_parameter [] = (blank_class_parameter, [])
 
+abbrev pub supertype_in : Built → Supertype
+supertype_in (b.Supertype x) = x
+supertype_in _ = blank_supertype
+
 abbrev pub supertype : Reader Supertype
-supertype (b.Supertype x ∷ ps) = (x, ps)
-supertype (_ ∷ ps) = (blank_supertype, ps)
+supertype (x ∷ ps) = (supertype_in x, ps)
 supertype [] = (blank_supertype, [])
 
+abbrev pub member_in : Built → Member
+member_in (b.Init x) = members.Init x
+member_in (b.Function x) = members.Function x
+member_in (b.Property x) = members.Property x
+member_in _ = members.Init blank_block
+
 abbrev pub member : Reader Member
-member (b.Init x ∷ ps) = (members.Init x, ps)
-member (b.Function x ∷ ps) = (members.Function x, ps)
-member (b.Property x ∷ ps) = (members.Property x, ps)
-member (_ ∷ ps) = (members.Init blank_block, ps)
+member (x ∷ ps) = (member_in x, ps)
 member [] = (members.Init blank_block, [])
 
+abbrev pub getter_body_in : Built → FunctionBody
+getter_body_in (b.Expr e) = body.Expr e
+getter_body_in (b.Block x) = body.Block None x
+getter_body_in _ = body.Expr blank_expr
+
 abbrev pub getter_body : Reader FunctionBody
-getter_body (b.Expr e ∷ ps) = (body.Expr e, ps)
-getter_body (b.Block x ∷ ps) = (body.Block None x, ps)
-getter_body (_ ∷ ps) = (body.Expr blank_expr, ps)
+getter_body (x ∷ ps) = (getter_body_in x, ps)
 getter_body [] = (body.Expr blank_expr, [])
 
+abbrev pub maybe_token_in : Built → Option ℕ
+maybe_token_in (b.Token t) = Some t
+maybe_token_in _ = None
+
 abbrev pub maybe_token : Reader (Option ℕ)
-maybe_token (b.Token t ∷ ps) = (Some t, ps)
-maybe_token (_ ∷ ps) = (None, ps)
+maybe_token (x ∷ ps) = (maybe_token_in x, ps)
 maybe_token [] = (None, [])
 
+abbrev pub maybe_type_in : Built → Option TypeRef
+maybe_type_in (b.Type t) = Some t
+maybe_type_in _ = None
+
 abbrev pub maybe_type : Reader (Option TypeRef)
-maybe_type (b.Type t ∷ ps) = (Some t, ps)
-maybe_type (_ ∷ ps) = (None, ps)
+maybe_type (x ∷ ps) = (maybe_type_in x, ps)
 maybe_type [] = (None, [])
 
+abbrev pub maybe_expr_in : Built → Option Expr
+maybe_expr_in (b.Expr e) = Some e
+maybe_expr_in _ = None
+
 abbrev pub maybe_expr : Reader (Option Expr)
-maybe_expr (b.Expr e ∷ ps) = (Some e, ps)
-maybe_expr (_ ∷ ps) = (None, ps)
+maybe_expr (x ∷ ps) = (maybe_expr_in x, ps)
 maybe_expr [] = (None, [])
 
+abbrev pub maybe_block_in : Built → Option Block
+maybe_block_in (b.Block x) = Some x
+maybe_block_in _ = None
+
 abbrev pub maybe_block : Reader (Option Block)
-maybe_block (b.Block x ∷ ps) = (Some x, ps)
-maybe_block (_ ∷ ps) = (None, ps)
+maybe_block (x ∷ ps) = (maybe_block_in x, ps)
 maybe_block [] = (None, [])
 
+abbrev pub maybe_branch_in : Built → Option Branch
+maybe_branch_in (b.Block x) = Some (branches.Braced x)
+maybe_branch_in (b.Stmt s) = Some (branches.Single s)
+maybe_branch_in (b.Expr e) = Some (branches.Single (statement.Expr e))
+maybe_branch_in _ = None
+
 abbrev pub maybe_branch : Reader (Option Branch)
-maybe_branch (b.Block x ∷ ps) = (Some (branches.Braced x), ps)
-maybe_branch (b.Stmt s ∷ ps) = (Some (branches.Single s), ps)
-maybe_branch (b.Expr e ∷ ps) = (Some (branches.Single (statement.Expr e)), ps)
-maybe_branch (_ ∷ ps) = (None, ps)
+maybe_branch (x ∷ ps) = (maybe_branch_in x, ps)
 maybe_branch [] = (None, [])
 
+abbrev pub maybe_lambda_in : Built → Option Lambda
+maybe_lambda_in (b.Lambda x) = Some x
+maybe_lambda_in _ = None
+
 abbrev pub maybe_lambda : Reader (Option Lambda)
-maybe_lambda (b.Lambda x ∷ ps) = (Some x, ps)
-maybe_lambda (_ ∷ ps) = (None, ps)
+maybe_lambda (x ∷ ps) = (maybe_lambda_in x, ps)
 maybe_lambda [] = (None, [])
 
+abbrev pub maybe_subject_in : Built → Option Subject
+maybe_subject_in (b.Subject x) = Some x
+maybe_subject_in _ = None
+
 abbrev pub maybe_subject : Reader (Option Subject)
-maybe_subject (b.Subject x ∷ ps) = (Some x, ps)
-maybe_subject (_ ∷ ps) = (None, ps)
+maybe_subject (x ∷ ps) = (maybe_subject_in x, ps)
 maybe_subject [] = (None, [])
 
+abbrev pub maybe_subject_name_in : Built → Option (Ident × Option TypeRef)
+maybe_subject_name_in (b.SubjectName x t) = Some (x, t)
+maybe_subject_name_in _ = None
+
 abbrev pub maybe_subject_name : Reader (Option (Ident × Option TypeRef))
-maybe_subject_name (b.SubjectName x t ∷ ps) = (Some (x, t), ps)
-maybe_subject_name (_ ∷ ps) = (None, ps)
+maybe_subject_name (x ∷ ps) = (maybe_subject_name_in x, ps)
 maybe_subject_name [] = (None, [])
 
+abbrev pub maybe_count_in : Built → Option ℕ
+maybe_count_in (b.Count n) = Some n
+maybe_count_in _ = None
+
 abbrev pub maybe_count : Reader (Option ℕ)
-maybe_count (b.Count n ∷ ps) = (Some n, ps)
-maybe_count (_ ∷ ps) = (None, ps)
+maybe_count (x ∷ ps) = (maybe_count_in x, ps)
 maybe_count [] = (None, [])
 
+abbrev pub maybe_contract_in : Built → Option Contract
+maybe_contract_in (b.Contract x) = Some x
+maybe_contract_in _ = None
+
 abbrev pub maybe_contract : Reader (Option Contract)
-maybe_contract (b.Contract x ∷ ps) = (Some x, ps)
-maybe_contract (_ ∷ ps) = (None, ps)
+maybe_contract (x ∷ ps) = (maybe_contract_in x, ps)
 maybe_contract [] = (None, [])
 
+abbrev pub maybe_getter_in : Built → Option Getter
+maybe_getter_in (b.Getter x) = Some x
+maybe_getter_in _ = None
+
 abbrev pub maybe_getter : Reader (Option Getter)
-maybe_getter (b.Getter x ∷ ps) = (Some x, ps)
-maybe_getter (_ ∷ ps) = (None, ps)
+maybe_getter (x ∷ ps) = (maybe_getter_in x, ps)
 maybe_getter [] = (None, [])
 
+abbrev pub maybe_body_in : Built → Option FunctionBody
+maybe_body_in (b.Expr e) = Some (body.Expr e)
+maybe_body_in (b.FunctionBlock c x) = Some (body.Block c x)
+maybe_body_in _ = None
+
 abbrev pub maybe_body : Reader (Option FunctionBody)
-maybe_body (b.Expr e ∷ ps) = (Some (body.Expr e), ps)
-maybe_body (b.FunctionBlock c x ∷ ps) = (Some (body.Block c x), ps)
-maybe_body (_ ∷ ps) = (None, ps)
+maybe_body (x ∷ ps) = (maybe_body_in x, ps)
 maybe_body [] = (None, [])
 
 -- so many
@@ -334,7 +424,7 @@ ident_at ts at = record { name = named (kind_at ts at); span = span_at ts at }
 
 -- the word without the `$` before it
 abbrev pub after_dollar : Span → Span
-after_dollar s = record { start = s.start + 1; end = s.end }
+after_dollar s = record { start = min (s.start + 1) 4294967295; end = s.end }
 
 abbrev pub ident : Tokens → Reader Ident
 ident ts ps = (ident_at ts (token ps).0, (token ps).1)

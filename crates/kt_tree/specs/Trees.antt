@@ -1,6 +1,6 @@
 -- The trees that phrases are made into: which parts of a phrase become which part of a tree. Trees are numbered from 1 in preorder.
 -- The shapes are this project's own.
-use Rattle.std.specs.Prelude.{ℕ, ◌+◌, ◌-◌, Bool, true, false, nat_lt, is_some, if◌then◌else◌, List, [], ◌∷◌, ◌++◌, length, Option, Some, None, option_map, slice_get}
+use Rattle.std.specs.Prelude.{ℕ, ◌+◌, ◌-◌, Bool, true, false, ◌||◌, ◌&&◌, not, nat_lt, is_some, if◌then◌else◌, List, [], ◌∷◌, ◌++◌, length, Option, Some, None, option_map, slice_get}
 use Rattle.kt_tree.specs.declared.grammar.built.Built.{Built}
 use Rattle.kt_tree.specs.declared.grammar.built.Built.TheVariants as b
 use Rattle.kt_tree.specs.declared.grammar.terminal.Terminal.{Terminal}
@@ -593,41 +593,24 @@ expression_kind ts f.NameTarget = name_kind ts
 expression_kind ts f.MemberTarget = member_kind ts
 expression_kind ts _ = end_with e.Null
 
+-- trees that are no expressions
+abbrev pub is_statement : Form → Bool
+is_statement f.Lambda = true
+is_statement f.Local = true
+is_statement f.Assignment = true
+is_statement f.While = true
+is_statement f.DoWhile = true
+is_statement f.For = true
+is_statement _ = false
+
+-- what is assigned has the shape of an expression
+abbrev pub is_assigned : Form → Bool
+is_assigned f.NameTarget = true
+is_assigned f.MemberTarget = true
+is_assigned _ = false
+
 abbrev pub is_expression : Form → Bool
-is_expression f.Int = true
-is_expression f.Bool = true
-is_expression f.Null = true
-is_expression f.This = true
-is_expression f.ThisPiece = true
-is_expression f.Name = true
-is_expression f.Template = true
-is_expression f.Paren = true
-is_expression f.Call = true
-is_expression f.Member = true
-is_expression f.SafeMember = true
-is_expression f.MemberCall = true
-is_expression f.SafeMemberCall = true
-is_expression f.NotNull = true
-is_expression f.Prefixed = true
-is_expression f.Cast = true
-is_expression f.Sum = true
-is_expression f.Product = true
-is_expression f.Compare = true
-is_expression f.Equal = true
-is_expression f.And = true
-is_expression f.Or = true
-is_expression f.Elvis = true
-is_expression f.IsType = true
-is_expression f.If = true
-is_expression f.When = true
-is_expression f.Try = true
-is_expression f.Return = true
-is_expression f.Throw = true
-is_expression f.Jump = true
-is_expression f.NamePiece = true
-is_expression f.NameTarget = true
-is_expression f.MemberTarget = true
-is_expression _ = false
+is_expression form = is_assigned form || (is_tree form && not (is_statement form))
 
 -- an inserted name is the tree of the word without its `$`
 abbrev pub tree_span : Form → Span → Span

@@ -1,4 +1,4 @@
-use Rattle.std.proofs.Common.{◌≡◌, ◌-◌, ◌≤◌, length}
+use Rattle.std.proofs.Common.{◌-◌, ◌≤◌, length}
 use Rattle.kt_parse.specs.Engine.{Leads}
 use Rattle.kt_tree.specs.Derives.{whole, start}
 use Rattle.kt_parse.proofs.engine.run.Given as goal
