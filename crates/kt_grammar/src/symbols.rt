@@ -4,7 +4,7 @@ ghost use Rattle.std.specs.Option.{option_map};
 ghost use Rattle.kt_tree.specs.Grammar as spec;
 
 use crate::rows::row;
-use kt_tree::grammar::Step::{Add, Enter, Keep, KeepChosen, Leave, Make, Separated, Take, Target};
+use kt_tree::grammar::Step::{Add, Enter, Exclude, Keep, KeepChosen, Leave, Make, Separated, Take, Target};
 use kt_tree::grammar::Symbol::{Do, Part};
 use kt_tree::grammar::{
     Class, Form as F, Nonterminal as N, Production as P, Symbol, Terminal as T,
@@ -557,6 +557,7 @@ pub fn otherwise(nonterminal: N) -> Option<&'static [Symbol]>
         N::TypesMore => Some(&[]),
         N::WrittenType => Some(&[
             Do(Keep(T::Id)),
+            Do(Exclude(T::Less)),
             Part(N::Nullable),
             Do(Make(F::WrittenType, 2)),
         ]),

@@ -5,7 +5,7 @@ use Rattle.kt_tree.specs.declared.grammar.production.Symbol.{Symbol}
 use Rattle.kt_tree.specs.declared.grammar.production.Symbol.TheVariants.{Do, Part}
 use Rattle.kt_tree.specs.declared.grammar.production.Nonterminal.{Nonterminal}
 use Rattle.kt_tree.specs.declared.grammar.production.Step.{Step}
-use Rattle.kt_tree.specs.declared.grammar.production.Step.TheVariants.{Take, Keep, KeepChosen, Separated, Enter, Leave, Make, Add, Target}
+use Rattle.kt_tree.specs.declared.grammar.production.Step.TheVariants.{Take, Keep, KeepChosen, Separated, Exclude, Enter, Leave, Make, Add, Target}
 use Rattle.kt_tree.specs.declared.grammar.terminal.Class.{Class}
 use Rattle.kt_tree.specs.declared.grammar.fault.ParseFault.{ParseFault}
 use Rattle.kt_tree.specs.declared.grammar.fault.ParseFault.TheVariants.{NoMemory}
@@ -91,6 +91,7 @@ does-takes ts (Take w) s t h e = takes-one ts (is_at ts s.at w) s (moved s) t (f
 does-takes ts (Keep w) s t h e = takes-one ts (is_at ts s.at w) s (kept s) t (first_true (is_some (slice_get ts.list s.at)) (stands_for w (class_at ts s.at).terminal)) refl e
 does-takes ts KeepChosen s t h e = takes-one ts (is_some (slice_get ts.list s.at)) s (kept s) t (λ q. q) refl e
 does-takes ts Separated s t h e = absurd cc
+does-takes ts (Exclude w) s t h e = absurd cc
 does-takes ts Enter s t h e = absurd cc
 does-takes ts Leave s t h e = absurd cc
 does-takes ts (Make made count) s t h e = absurd cc
@@ -121,6 +122,7 @@ does-silent ts (Take w) s t h e = absurd cc
 does-silent ts (Keep w) s t h e = absurd cc
 does-silent ts KeepChosen s t h e = absurd cc
 does-silent ts Separated s t h e = stays (is_separated ts s.at && not s.high) s s t (misfit s) refl e
+does-silent ts (Exclude w) s t h e = stays (not (stands_for w (class_at ts s.at).terminal) && not s.high) s s t (misfit s) refl e
 does-silent ts Enter s t h e = stays (nat_lt s.depth max_depth) s _ t _ refl e
 does-silent ts Leave s t h e = cc
 does-silent ts (Make made count) s t h e = cc

@@ -1,7 +1,7 @@
 //! One step of reading.
-ghost use Rattle.std.specs.Prelude.{◌≡◌, ◌<◌, length, is_some, slice_get, IsTrue, OnOk, OnErr};
+ghost use Rattle.std.specs.Prelude.{◌≡◌, ◌<◌, not, length, is_some, slice_get, IsTrue, OnOk, OnErr};
 ghost use Rattle.kt_tree.specs.Derives as spec;
-ghost use Rattle.kt_tree.specs.Classes.{class_at};
+ghost use Rattle.kt_tree.specs.Classes.{class_at, stands_for};
 ghost use Rattle.kt_parse.specs.Engine as engine;
 ghost use Rattle.kt_tree.specs.declared.grammar.fault.ParseFault.TheVariants.{NoMemory};
 
@@ -112,6 +112,15 @@ fn separated(class: Class, state: &State) -> Result<(), ParseFault>
     Err(misfit(state))
 }
 
+fn exclude(class: Class, excluded: Terminal, state: &State) -> Result<(), ParseFault>
+    ensures { engine.Does (spec.passed (not (stands_for excluded class.terminal)) state.now state.now) result state.now }
+{
+    if !stands_for(excluded, class.terminal) && !state.high {
+        return Ok(());
+    }
+    Err(misfit(state))
+}
+
 fn enter(state: &mut State) -> Result<(), ParseFault>
     ensures { engine.Does (spec.enter state.old) result state.new }
 {
@@ -162,6 +171,7 @@ pub fn do_step(
         Step::Keep(expected) => keep(alloc, tokens, class, expected, state),
         Step::KeepChosen => keep_chosen(alloc, tokens, state),
         Step::Separated => separated(class, state),
+        Step::Exclude(excluded) => exclude(class, excluded, state),
         Step::Enter => enter(state),
         Step::Leave => {
             state.depth = state.depth.saturating_sub(1);

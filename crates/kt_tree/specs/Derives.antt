@@ -15,7 +15,7 @@ use Rattle.kt_tree.specs.declared.grammar.fault.ParseFault.TheVariants.{Syntax, 
 use Rattle.kt_tree.specs.declared.grammar.production.Nonterminal.{Nonterminal}
 use Rattle.kt_tree.specs.declared.grammar.production.Nonterminal.TheVariants as n
 use Rattle.kt_tree.specs.declared.grammar.production.Step.{Step}
-use Rattle.kt_tree.specs.declared.grammar.production.Step.TheVariants.{Take, Keep, KeepChosen, Separated, Enter, Leave, Make, Add, Target}
+use Rattle.kt_tree.specs.declared.grammar.production.Step.TheVariants.{Take, Keep, KeepChosen, Separated, Exclude, Enter, Leave, Make, Add, Target}
 use Rattle.kt_tree.specs.declared.grammar.production.Symbol.{Symbol}
 use Rattle.kt_tree.specs.declared.grammar.production.Symbol.TheVariants.{Do, Part}
 use Rattle.kt_tree.specs.Classes.{class_at, stands_for, same_terminal}
@@ -180,6 +180,7 @@ does ts (Take w) s = passed (is_at ts s.at w) s (moved s)
 does ts (Keep w) s = passed (is_at ts s.at w) s (kept s)
 does ts KeepChosen s = passed (is_some (slice_get ts.list s.at)) s (kept s)
 does ts Separated s = passed (is_separated ts s.at) s s
+does ts (Exclude w) s = passed (not (stands_for w (class_at ts s.at).terminal)) s s
 does ts Enter s = enter s
 does ts Leave s = Ok (record s { depth = s.depth - 1 })
 does ts (Make form count) s = Ok (made form count s)

@@ -15,7 +15,7 @@ use Rattle.kt_tree.specs.declared.grammar.production.First.TheVariants as first
 use Rattle.kt_tree.specs.declared.grammar.production.Need.{Need}
 use Rattle.kt_tree.specs.declared.grammar.production.Need.TheVariants as need
 use Rattle.kt_tree.specs.declared.grammar.production.Row.{Row}
-use Rattle.kt_tree.specs.declared.grammar.production.Step.TheVariants.{Take, Keep, KeepChosen, Separated, Enter, Leave, Make, Add, Target}
+use Rattle.kt_tree.specs.declared.grammar.production.Step.TheVariants.{Take, Keep, KeepChosen, Separated, Exclude, Enter, Leave, Make, Add, Target}
 use Rattle.kt_tree.specs.declared.grammar.production.Symbol.{Symbol}
 use Rattle.kt_tree.specs.declared.grammar.production.Symbol.TheVariants.{Do, Part}
 use Rattle.kt_tree.specs.declared.grammar.production.TheConstants.{OPEN}
@@ -335,7 +335,7 @@ otherwise n.Parameter = Some (Do (Keep t.Id) ∷ Do (Take t.Colon) ∷ Part n.Pa
 otherwise n.ParameterType = None
 otherwise n.Types = Some ([])
 otherwise n.TypesMore = Some ([])
-otherwise n.WrittenType = Some (Do (Keep t.Id) ∷ Part n.Nullable ∷ Do (Make f.WrittenType 2) ∷ [])
+otherwise n.WrittenType = Some (Do (Keep t.Id) ∷ Do (Exclude t.Less) ∷ Part n.Nullable ∷ Do (Make f.WrittenType 2) ∷ [])
 otherwise n.Nullable = Some (Do (Make f.Absent 0) ∷ [])
 otherwise n.Result = Some (Do (Make f.Absent 0) ∷ [])
 otherwise n.FunctionBody = Some (Do (Make f.Absent 0) ∷ [])

@@ -403,6 +403,8 @@ pub enum Step {
     KeepChosen,
     /// Asks for a line end, `;` or `}`.
     Separated,
+    /// Asks that the next token is another than this one.
+    Exclude(Terminal),
     /// Opens a part that counts for the depth.
     Enter,
     Leave,
