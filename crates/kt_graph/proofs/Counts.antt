@@ -26,6 +26,7 @@ append xs ys x y e f = omega (arith, length-append xs ys)
 
 mutual
   unfolding nodes
+
   pub length-nodes : (b : Bool) (copy : ℕ) (t : Tree) → length (nodes b copy t) ≡ size b t
   length-nodes b copy (Operation' n o ps) = between b copy (Operation' n o ps) (all_nodes copy ps) ∙ ap (λ k. own_size b + k) (length-all_nodes copy ps)
   length-nodes true copy (Name' n at x) = refl

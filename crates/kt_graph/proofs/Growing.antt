@@ -26,7 +26,7 @@ then {a} {b} {c} {xs} {ys} {es} {fs} p q = record {
   has_nodes = q.has_nodes ∙ ap (λ l. ys ++ l) p.has_nodes ∙ sym (append_assoc ys xs (reverse a.nodes.items));
   has_room = omega (arith, length-append ys xs, p.has_room, q.has_room);
   has_edges = λ ns h.
-    q.has_edges ns h
+      q.has_edges ns h
       ∙ ap (λ l. fs ns ++ l) (p.has_edges ns (back q ns h))
       ∙ sym (append_assoc (fs ns) (es ns) (edges_at ns (reverse a.edges.items)));
 }

@@ -64,14 +64,14 @@ pub walk_operation : {a b d f : Builder} {ts : Trees} {n o r : ℕ} {m : Option 
 unfolding nodes edges
 walk_operation {ts = ts} {n = n} {o = o} {c = c} operation p w q = record {
   tree_walked = whole (next (next p w.trees_walked) q) refl
-    (λ ns e. let x = returns_is (returns_of operation) o ns (out_at n c.copy []) e.0.0 in cc) (λ ns e. e.1);
+      (λ ns e. let x = returns_is (returns_of operation) o ns (out_at n c.copy []) e.0.0 in cc) (λ ns e. e.1);
 }
 
 pub walk_call : {a b d f : Builder} {ts : Trees} {n o r : ℕ} {m : Option ℕ} {c : FlowContext} {ex : Exits} (g : ℕ) (returns : Bool) → Leaves a b n [] c ex o → WalksTrees b d ts c (place_if returns o) m → StepsTo d f (in_at n c.copy []) c m r → WalksTree a f (Call' n g returns ts) c ex r
 unfolding nodes edges
 walk_call {ts = ts} {n = n} {o = o} {c = c} g returns p w q = record {
   tree_walked = whole (next (next p w.trees_walked) q) refl
-    (λ ns e. let x = returns_is returns o ns (out_at n c.copy []) e.0.0 in cc) (λ ns e. e.1);
+      (λ ns e. let x = returns_is returns o ns (out_at n c.copy []) e.0.0 in cc) (λ ns e. e.1);
 }
 
 pub walk_name : {a b d : Builder} {n o r : ℕ} {c : FlowContext} {ex : Exits} (at : Span) (x : ℕ) → Leaves a b n (reads x ∷ []) c ex o → StepsTo b d (in_at n c.copy []) c (Some o) r → WalksTree a d (Name' n at x) c ex r
@@ -82,7 +82,7 @@ pub walk_paren : {a b d f : Builder} {t : Tree} {n m r : ℕ} {c : FlowContext} 
 unfolding nodes edges
 walk_paren {t = t} {n = n} {c = c} p w q = record {
   tree_walked = whole (next (next p.encloses w.tree_walked) q)
-    (ap (λ b. in_at n c.copy [] ∷ (nodes b c.copy t ++ out_at n c.copy [] ∷ [])) p.same_branch) (λ ns e. cc) (λ ns e. e.1);
+      (ap (λ b. in_at n c.copy [] ∷ (nodes b c.copy t ++ out_at n c.copy [] ∷ [])) p.same_branch) (λ ns e. cc) (λ ns e. e.1);
 }
 
 pub walk_not : {a b d f : Builder} {t : Tree} {n m r : ℕ} {yes' no' : Option ℕ} {c : FlowContext} {ex : Exits} → Tests a b n c ex yes' no' → WalksTree b d t c (exits.Branch no' yes') m → StepsTo d f (in_at n c.copy []) c (Some m) r → WalksTree a f (Not' n t) c ex r
@@ -156,17 +156,17 @@ branch_at uses d w = same_trees (ap (branch_trees uses) (sym d)) w
 pub stmts_more : (uses : ℕ → Named) (xs : List Stmt) (i j : ℕ) (x : Stmt) → j < length xs → i ≡ suc j → x ≡ get_or xs j x → listed (map (stmt_tree uses) (drop j xs)) ≡ First' (stmt_tree uses x) (listed (map (stmt_tree uses) (drop i xs)))
 stmts_more uses xs i j x h e is =
     ap (λ l. listed (map (stmt_tree uses) l)) (drop-cons xs j x h ∙ ap (λ y. y ∷ drop (suc j) xs) (sym is))
-      ∙ ap (λ k. First' (stmt_tree uses x) (listed (map (stmt_tree uses) (drop k xs)))) (sym e)
+    ∙ ap (λ k. First' (stmt_tree uses x) (listed (map (stmt_tree uses) (drop k xs)))) (sym e)
 
 pub exprs_more : (uses : ℕ → Named) (xs : List Expr) (i j : ℕ) (x : Expr) → j < length xs → i ≡ suc j → x ≡ get_or xs j x → seen_trees (map (seen uses) (drop j xs)) ≡ First' (expr_tree uses x) (seen_trees (map (seen uses) (drop i xs)))
 exprs_more uses xs i j x h e is =
     ap (λ l. seen_trees (map (seen uses) l)) (drop-cons xs j x h ∙ ap (λ y. y ∷ drop (suc j) xs) (sym is))
-      ∙ ap (λ k. First' (expr_tree uses x) (seen_trees (map (seen uses) (drop k xs)))) (sym e)
+    ∙ ap (λ k. First' (expr_tree uses x) (seen_trees (map (seen uses) (drop k xs)))) (sym e)
 
 pub pieces_more : (uses : ℕ → Named) (xs : List StringPart) (i j : ℕ) (x : StringPart) → j < length xs → i ≡ suc j → x ≡ get_or xs j x → inserted_of (map (piece uses) (drop j xs)) ≡ inserted_of (piece uses x ∷ map (piece uses) (drop i xs))
 pieces_more uses xs i j x h e is =
     ap (λ l. inserted_of (map (piece uses) l)) (drop-cons xs j x h ∙ ap (λ y. y ∷ drop (suc j) xs) (sym is))
-      ∙ ap (λ k. inserted_of (piece uses x ∷ map (piece uses) (drop k xs))) (sym e)
+    ∙ ap (λ k. inserted_of (piece uses x ∷ map (piece uses) (drop k xs))) (sym e)
 
 -- what nothing adds
 pub walk_again : {a b d : Builder} {ts : Trees} {to m k : Option ℕ} {c : FlowContext} → WalksTrees a b ts c to m → WalksTrees b d Empty' c m k → WalksTrees a d ts c to k
@@ -177,11 +177,11 @@ first_again : {a b d : Builder} {t : Tree} {ts : Trees} {to m k : Option ℕ} {c
 unfolding nodes edges
 first_again {t = t} {ts = ts} {to = to} {m = m} {c = c} v w = record {
   trees_walked = whole (next v.trees_walked w.trees_walked)
-    (ap (λ l. l ++ all_nodes c.copy ts) (append-nil (nodes false c.copy t)))
-    (λ ns e.
+      (ap (λ l. l ++ all_nodes c.copy ts) (append-nil (nodes false c.copy t)))
+      (λ ns e.
       ap (λ l. l ++ all_edges (context_at ns c) (place_at ns to) ts) (append-nil (edges (context_at ns c) (flow.Then (place_at ns m)) t))
-        ∙ ap (λ l. edges (context_at ns c) (flow.Then l) t ++ all_edges (context_at ns c) (place_at ns to) ts) e.0)
-    (λ ns e. e.1);
+      ∙ ap (λ l. edges (context_at ns c) (flow.Then l) t ++ all_edges (context_at ns c) (place_at ns to) ts) e.0)
+      (λ ns e. e.1);
 }
 
 pub walk_piece : {a b d : Builder} (p : Piece) (ps : List Piece) {to m k : Option ℕ} {c : FlowContext} → WalksTrees a b (inserted_of ps) c to m → WalksTrees b d (inserted_of (p ∷ [])) c m k → WalksTrees a d (inserted_of (p ∷ ps)) c to k
@@ -194,16 +194,16 @@ walk_piece (Inserted' t) ps v w = first_again v w
 abbrev body_from : FlowContext → FlowContext → Trees → List ℕ → ℕ → Option ℕ → ℕ → List Node → List Edge
 body_from outside inside ts ps q first o ns =
     on (context_at ns outside) entry_node (place_at ns (Some q))
-      ++ (on (context_at ns outside) (params_node ps) (place_at ns first) ++ all_edges (context_at ns inside) (place_at ns (Some o)) ts)
+    ++ (on (context_at ns outside) (params_node ps) (place_at ns first) ++ all_edges (context_at ns inside) (place_at ns (Some o)) ts)
 
 -- and as the definition tells them
 named_edges : (outside inside : FlowContext) (ts : Trees) (ps : List ℕ) (q : ℕ) (first : Option ℕ) (o : ℕ) (ns : List Node) → node_at ns o ≡ end_node → place_at ns first ≡ entry_of inside.copy (place_at ns (Some o)) ts → node_at ns q ≡ params_node ps → inside.copy ≡ 0 → context_at ns inside ≡ in_body → context_at ns outside ≡ flow.outside → body_from outside inside ts ps q first o ns ≡ body_edges ps ts
 named_edges outside inside ts ps q first o ns at_end at_first at_params ic i j =
     ap (λ c. on c entry_node (place_at ns (Some q)) ++ (on c (params_node ps) (place_at ns first) ++ all_edges (context_at ns inside) (place_at ns (Some o)) ts)) j
-      ∙ ap (λ c. on flow.outside entry_node (place_at ns (Some q)) ++ (on flow.outside (params_node ps) (place_at ns first) ++ all_edges c (place_at ns (Some o)) ts)) i
-      ∙ ap (λ m. on flow.outside entry_node (m ∷ []) ++ (on flow.outside (params_node ps) (place_at ns first) ++ all_edges in_body (place_at ns (Some o)) ts)) at_params
-      ∙ ap (λ l. on flow.outside entry_node (params_node ps ∷ []) ++ (on flow.outside (params_node ps) l ++ all_edges in_body (place_at ns (Some o)) ts)) (at_first ∙ ap (λ k. entry_of k (place_at ns (Some o)) ts) ic)
-      ∙ ap (λ m. on flow.outside entry_node (params_node ps ∷ []) ++ (on flow.outside (params_node ps) (entry_of 0 (m ∷ []) ts) ++ all_edges in_body (m ∷ []) ts)) at_end
+    ∙ ap (λ c. on flow.outside entry_node (place_at ns (Some q)) ++ (on flow.outside (params_node ps) (place_at ns first) ++ all_edges c (place_at ns (Some o)) ts)) i
+    ∙ ap (λ m. on flow.outside entry_node (m ∷ []) ++ (on flow.outside (params_node ps) (place_at ns first) ++ all_edges in_body (place_at ns (Some o)) ts)) at_params
+    ∙ ap (λ l. on flow.outside entry_node (params_node ps ∷ []) ++ (on flow.outside (params_node ps) l ++ all_edges in_body (place_at ns (Some o)) ts)) (at_first ∙ ap (λ k. entry_of k (place_at ns (Some o)) ts) ic)
+    ∙ ap (λ m. on flow.outside entry_node (params_node ps ∷ []) ++ (on flow.outside (params_node ps) (entry_of 0 (m ∷ []) ts) ++ all_edges in_body (m ∷ []) ts)) at_end
 
 pub walk_body : {a b d f g : Builder} {ts : Trees} {ps : List ℕ} {o q r : ℕ} {first : Option ℕ} {inside : FlowContext} (outside : FlowContext) → a.nodes.items ≡ [] → a.edges.items ≡ [] → a.ahead ≡ length (body_nodes ps ts) → StepsTo a b end_node outside None o → ((ns : List Node) → node_at ns o ≡ end_node → context_at ns inside ≡ in_body) → inside.copy ≡ 0 → ((ns : List Node) → context_at ns outside ≡ flow.outside) → WalksTrees b d ts inside (Some o) first → StepsTo d f (params_node ps) outside first q → StepsTo f g entry_node outside (Some q) r → IsBuilt ps ts g
 unfolding on edges_at

@@ -71,15 +71,15 @@ assume_at n copy false = node n tag.Assume (2 * copy + 1) (effect.Assume [] ∷ 
 abbrev pub Leaves : Builder → Builder → ℕ → Effects → FlowContext → Exits → ℕ → Type 0
 Leaves old new n es context leads o =
     Enters old new (last_nodes (is_branch leads) (out_at n context.copy es) (assume_at n context.copy true) (assume_at n context.copy false))
-      (λ ns. last_edges (context_at ns context) (out_at n context.copy es) (assume_at n context.copy true) (assume_at n context.copy false) (exits_at ns leads))
-      (λ ns. node_at ns o ≡ out_at n context.copy es)
+    (λ ns. last_edges (context_at ns context) (out_at n context.copy es) (assume_at n context.copy true) (assume_at n context.copy false) (exits_at ns leads))
+    (λ ns. node_at ns o ≡ out_at n context.copy es)
 
 -- the `out` of a test was added, and its outcomes lead where they are sent
 abbrev pub Tests : Builder → Builder → ℕ → FlowContext → Exits → Option ℕ → Option ℕ → Type 0
 Tests old new n context leads on_true on_false =
     Enters old new (out_at n context.copy [] ∷ []) (λ ns. test_edges (context_at ns context) (out_at n context.copy []) (exits_at ns leads))
-      (λ ns. (place_at ns on_true ≡ on_true_of (out_at n context.copy []) (exits_at ns leads))
-        × (place_at ns on_false ≡ on_false_of (out_at n context.copy []) (exits_at ns leads)))
+    (λ ns. (place_at ns on_true ≡ on_true_of (out_at n context.copy []) (exits_at ns leads))
+    × (place_at ns on_false ≡ on_false_of (out_at n context.copy []) (exits_at ns leads)))
 
 -- the `out` of parentheses was added, and what is inside leads where it is sent
 pub record Encloses (old new : Builder) (n : ℕ) (context : FlowContext) (leads inner : Exits) : Type 0 where

@@ -293,7 +293,13 @@ pub fn local(uses: &Uses, tree: u32, value: &Option<Expr>) -> u32
 
 /// The nodes of an assignment.
 #[cycle(count)]
-pub fn assign(uses: &Uses, tree: u32, is_name: bool, assignment: Assignment, value: &Option<Expr>) -> u32
+pub fn assign(
+    uses: &Uses,
+    tree: u32,
+    is_name: bool,
+    assignment: Assignment,
+    value: &Option<Expr>,
+) -> u32
     ensures { (at : Span) → result ≡ capped (size false (assign_tree (named_at uses.now tree) tree (name_span is_name at) assignment (option_map (seen (named_at uses.now)) value.now))) }
 {
     if !is_name {

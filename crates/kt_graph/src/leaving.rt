@@ -45,7 +45,10 @@ pub fn declares(alloc: Global, local: u32) -> Result<Items<FlowEffect>, NoMemory
 pub fn assigns(alloc: Global, local: u32) -> Result<Items<FlowEffect>, NoMemory>
     ensures { IfOk result (λ es. es ≡ flow.assigns local (Known.Literals []) ∷ []) }
 {
-    one(alloc, FlowEffect::Assign(Variable::Local(local), Known::Literals(Items::new(alloc))))
+    one(
+        alloc,
+        FlowEffect::Assign(Variable::Local(local), Known::Literals(Items::new(alloc))),
+    )
 }
 
 /// Adds a local's declaration, and the assignment of a value of which nothing is known.

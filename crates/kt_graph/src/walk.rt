@@ -131,7 +131,12 @@ impl Builder {
                 let out = self.close(context, exits, tree)?;
                 let on_false = self.otherwise(uses, context, Some(out), otherwise)?;
                 let on_true = self.branch(uses, context, Some(out), then.get())?;
-                let c = self.expr(uses, context, Exits::Branch(on_true, on_false), condition.get())?;
+                let c = self.expr(
+                    uses,
+                    context,
+                    Exits::Branch(on_true, on_false),
+                    condition.get(),
+                )?;
                 let n = self.enter(context, tree, Some(c))?;
                 Ok(n)
             }

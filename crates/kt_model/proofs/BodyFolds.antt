@@ -280,24 +280,24 @@ kind_other_at uses l h0 h1 h2 h3 h4 h5 h6 h7 h8 h9 h10 h11 h12 h13 h14 h15 h16 h
 pub kind_other : (uses : ℕ → Named) (k' : ExprKind) → ((k : ℕ) → k' ≢ e.Int k) → ((t : Bool) → k' ≢ e.Bool t) → (k' ≢ e.Null) → ((x : ℕ) → k' ≢ e.Name x) → ((ps : List StringPart) → k' ≢ e.Template ps) → ((x : Expr) → k' ≢ e.Paren x) → ((f : Ident) (xs : List Expr) (l : Option Lambda) → k' ≢ e.Call f xs l) → ((o : Sign) (x : Expr) → k' ≢ e.Sign o x) → ((x : Expr) → k' ≢ e.Not x) → ((x : Expr) (y : Expr) → k' ≢ e.Sum x y) → ((o : Arithmetic) (x : Expr) (y : Expr) → k' ≢ e.Arithmetic o x y) → ((o : Comparison) (x : Expr) (y : Expr) → k' ≢ e.Compare o x y) → ((o : Equality) (x : Expr) (y : Expr) → k' ≢ e.Equal o x y) → ((x : Expr) (y : Expr) → k' ≢ e.And x y) → ((x : Expr) (y : Expr) → k' ≢ e.Or x y) → ((c : Expr) (x : Branch) (y : Option Branch) → k' ≢ e.If c x y) → ((l : Option Ident) (w : Option Expr) → k' ≢ e.Return l w) → ((x : Expr) → k' ≢ e.Throw x) → seen_kind uses k' ≡ shut
 kind_other uses k' h0 h1 h2 h3 h4 h5 h6 h7 h8 h9 h10 h11 h12 h13 h14 h15 h16 h17 =
     subst (λ j. seen_kind uses j ≡ shut) (v.roll-out-ExprKind k') (kind_other_at uses (v.out-ExprKind k')
-      (λ k. subst (λ j. j ≢ e.Int k) (sym (v.roll-out-ExprKind k')) (h0 k))
-      (λ t. subst (λ j. j ≢ e.Bool t) (sym (v.roll-out-ExprKind k')) (h1 t))
-      (subst (λ j. j ≢ e.Null) (sym (v.roll-out-ExprKind k')) h2)
-      (λ x. subst (λ j. j ≢ e.Name x) (sym (v.roll-out-ExprKind k')) (h3 x))
-      (λ ps. subst (λ j. j ≢ e.Template ps) (sym (v.roll-out-ExprKind k')) (h4 ps))
-      (λ x. subst (λ j. j ≢ e.Paren x) (sym (v.roll-out-ExprKind k')) (h5 x))
-      (λ f xs l. subst (λ j. j ≢ e.Call f xs l) (sym (v.roll-out-ExprKind k')) (h6 f xs l))
-      (λ o x. subst (λ j. j ≢ e.Sign o x) (sym (v.roll-out-ExprKind k')) (h7 o x))
-      (λ x. subst (λ j. j ≢ e.Not x) (sym (v.roll-out-ExprKind k')) (h8 x))
-      (λ x y. subst (λ j. j ≢ e.Sum x y) (sym (v.roll-out-ExprKind k')) (h9 x y))
-      (λ o x y. subst (λ j. j ≢ e.Arithmetic o x y) (sym (v.roll-out-ExprKind k')) (h10 o x y))
-      (λ o x y. subst (λ j. j ≢ e.Compare o x y) (sym (v.roll-out-ExprKind k')) (h11 o x y))
-      (λ o x y. subst (λ j. j ≢ e.Equal o x y) (sym (v.roll-out-ExprKind k')) (h12 o x y))
-      (λ x y. subst (λ j. j ≢ e.And x y) (sym (v.roll-out-ExprKind k')) (h13 x y))
-      (λ x y. subst (λ j. j ≢ e.Or x y) (sym (v.roll-out-ExprKind k')) (h14 x y))
-      (λ c x y. subst (λ j. j ≢ e.If c x y) (sym (v.roll-out-ExprKind k')) (h15 c x y))
-      (λ l w. subst (λ j. j ≢ e.Return l w) (sym (v.roll-out-ExprKind k')) (h16 l w))
-      (λ x. subst (λ j. j ≢ e.Throw x) (sym (v.roll-out-ExprKind k')) (h17 x)))
+    (λ k. subst (λ j. j ≢ e.Int k) (sym (v.roll-out-ExprKind k')) (h0 k))
+    (λ t. subst (λ j. j ≢ e.Bool t) (sym (v.roll-out-ExprKind k')) (h1 t))
+    (subst (λ j. j ≢ e.Null) (sym (v.roll-out-ExprKind k')) h2)
+    (λ x. subst (λ j. j ≢ e.Name x) (sym (v.roll-out-ExprKind k')) (h3 x))
+    (λ ps. subst (λ j. j ≢ e.Template ps) (sym (v.roll-out-ExprKind k')) (h4 ps))
+    (λ x. subst (λ j. j ≢ e.Paren x) (sym (v.roll-out-ExprKind k')) (h5 x))
+    (λ f xs l. subst (λ j. j ≢ e.Call f xs l) (sym (v.roll-out-ExprKind k')) (h6 f xs l))
+    (λ o x. subst (λ j. j ≢ e.Sign o x) (sym (v.roll-out-ExprKind k')) (h7 o x))
+    (λ x. subst (λ j. j ≢ e.Not x) (sym (v.roll-out-ExprKind k')) (h8 x))
+    (λ x y. subst (λ j. j ≢ e.Sum x y) (sym (v.roll-out-ExprKind k')) (h9 x y))
+    (λ o x y. subst (λ j. j ≢ e.Arithmetic o x y) (sym (v.roll-out-ExprKind k')) (h10 o x y))
+    (λ o x y. subst (λ j. j ≢ e.Compare o x y) (sym (v.roll-out-ExprKind k')) (h11 o x y))
+    (λ o x y. subst (λ j. j ≢ e.Equal o x y) (sym (v.roll-out-ExprKind k')) (h12 o x y))
+    (λ x y. subst (λ j. j ≢ e.And x y) (sym (v.roll-out-ExprKind k')) (h13 x y))
+    (λ x y. subst (λ j. j ≢ e.Or x y) (sym (v.roll-out-ExprKind k')) (h14 x y))
+    (λ c x y. subst (λ j. j ≢ e.If c x y) (sym (v.roll-out-ExprKind k')) (h15 c x y))
+    (λ l w. subst (λ j. j ≢ e.Return l w) (sym (v.roll-out-ExprKind k')) (h16 l w))
+    (λ x. subst (λ j. j ≢ e.Throw x) (sym (v.roll-out-ExprKind k')) (h17 x)))
 
 not_name_at : (uses : ℕ → Named) (l : Layer) → ((x : ℕ) → v.roll-ExprKind l ≢ e.Name x) → (seen_kind uses (v.roll-ExprKind l)).is_name ≡ false
 unfolding seen seen_kind stmt_tree block_trees branch_trees piece
@@ -312,4 +312,4 @@ not_name_at uses l h = ap (λ (g : SeenKind). g.is_name) (fold-roll-ExprKind Tre
 pub not_name : (uses : ℕ → Named) (x : Expr) → ((y : ℕ) → x.kind ≢ e.Name y) → (seen uses x).name ≡ None
 not_name uses x h =
     name_of_kind uses x x.kind (seen_kind uses x.kind) refl refl
-      ∙ ap (λ b. name_span b x.span) (subst (λ j. (seen_kind uses j).is_name ≡ false) (v.roll-out-ExprKind x.kind) (not_name_at uses (v.out-ExprKind x.kind) (λ y. subst (λ j. j ≢ e.Name y) (sym (v.roll-out-ExprKind x.kind)) (h y))))
+    ∙ ap (λ b. name_span b x.span) (subst (λ j. (seen_kind uses j).is_name ≡ false) (v.roll-out-ExprKind x.kind) (not_name_at uses (v.out-ExprKind x.kind) (λ y. subst (λ j. j ≢ e.Name y) (sym (v.roll-out-ExprKind x.kind)) (h y))))

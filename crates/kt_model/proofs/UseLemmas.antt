@@ -45,17 +45,17 @@ not_found t (row ∷ rows) d h = passed_over t row rows (h zero (omega arith)) �
 pub rising : (rows : List UseRow) → IsStrictlyIncreasing (map (λ row. row.tree) rows) → Rising rows
 rising rows up = record {
   rise = λ i j d h k.
-    let below = AllPairs-from_increasing (map (λ row. row.tree) rows) up i j d.tree h (subst (λ n. j < n) (sym (length-map rows (λ (row : UseRow). row.tree))) k) in
-    let at_i : get_or (map (λ row. row.tree) rows) i d.tree ≡ (get_or rows i d).tree = get_or-map (λ (row : UseRow). row.tree) rows i d d.tree (omega arith) in
-    let at_j : get_or (map (λ row. row.tree) rows) j d.tree ≡ (get_or rows j d).tree = get_or-map (λ (row : UseRow). row.tree) rows j d d.tree k in
-    omega arith;
+      let below = AllPairs-from_increasing (map (λ row. row.tree) rows) up i j d.tree h (subst (λ n. j < n) (sym (length-map rows (λ (row : UseRow). row.tree))) k) in
+      let at_i : get_or (map (λ row. row.tree) rows) i d.tree ≡ (get_or rows i d).tree = get_or-map (λ (row : UseRow). row.tree) rows i d d.tree (omega arith) in
+      let at_j : get_or (map (λ row. row.tree) rows) j d.tree ≡ (get_or rows j d).tree = get_or-map (λ (row : UseRow). row.tree) rows j d d.tree k in
+      omega arith;
 }
 
 -- rows that rise answer a search in order
 pub searchable : (t : ℕ) (rows : List UseRow) → Rising rows → IsNonDecreasingBy (λ row. ordering_index (nat_cmp row.tree t)) rows
 searchable t rows r =
     searchable_from_sorted nat_cmp_total (λ (row : UseRow). row.tree) rows t
-      (λ k d low h. ap is_lt (sym (nat_cmp_is _ _ Greater (r.rise k (k + 1) d (omega arith) h))))
+    (λ k d low h. ap is_lt (sym (nat_cmp_is _ _ Greater (r.rise k (k + 1) d (omega arith) h))))
 
 -- what compares as another is another
 apart : (a t : ℕ) → nat_cmp a t ≢ Equal → a ≢ t

@@ -211,23 +211,23 @@ unfoldable mutual
   edges context exits (Not' n e) =
       let t = Not' n e in
       enter context t (in_of context.copy e ∷ [])
-        ++ (edges context (Branch (on_false_of (out_of context.copy t) exits) (on_true_of (out_of context.copy t) exits)) e ++ test_edges context (out_of context.copy t) exits)
+      ++ (edges context (Branch (on_false_of (out_of context.copy t) exits) (on_true_of (out_of context.copy t) exits)) e ++ test_edges context (out_of context.copy t) exits)
   edges context exits (And' n a b) =
       let t = And' n a b in
       enter context t (in_of context.copy a ∷ [])
-        ++ (edges context (Branch (in_of context.copy b ∷ []) (on_false_of (out_of context.copy t) exits)) a
-          ++ (edges context (Branch (on_true_of (out_of context.copy t) exits) (on_false_of (out_of context.copy t) exits)) b ++ test_edges context (out_of context.copy t) exits))
+      ++ (edges context (Branch (in_of context.copy b ∷ []) (on_false_of (out_of context.copy t) exits)) a
+      ++ (edges context (Branch (on_true_of (out_of context.copy t) exits) (on_false_of (out_of context.copy t) exits)) b ++ test_edges context (out_of context.copy t) exits))
   edges context exits (Or' n a b) =
       let t = Or' n a b in
       enter context t (in_of context.copy a ∷ [])
-        ++ (edges context (Branch (on_true_of (out_of context.copy t) exits) (in_of context.copy b ∷ [])) a
-          ++ (edges context (Branch (on_true_of (out_of context.copy t) exits) (on_false_of (out_of context.copy t) exits)) b ++ test_edges context (out_of context.copy t) exits))
+      ++ (edges context (Branch (on_true_of (out_of context.copy t) exits) (in_of context.copy b ∷ [])) a
+      ++ (edges context (Branch (on_true_of (out_of context.copy t) exits) (on_false_of (out_of context.copy t) exits)) b ++ test_edges context (out_of context.copy t) exits))
   edges context exits (If' n c a b) =
       let t = If' n c a b in
       let out = out_of context.copy t ∷ [] in
       enter context t (in_of context.copy c ∷ [])
-        ++ (edges context (Branch (entry_of context.copy out a) (entry_of context.copy out b)) c
-          ++ (all_edges context out a ++ (all_edges context out b ++ leave_edges context t exits)))
+      ++ (edges context (Branch (entry_of context.copy out a) (entry_of context.copy out b)) c
+      ++ (all_edges context out a ++ (all_edges context out b ++ leave_edges context t exits)))
   edges context exits (Declare' n x) =
       let t = Declare' n x in enter context t (out_of context.copy t ∷ []) ++ leave_edges context t exits
   edges context exits (Local' n at x e) =
@@ -248,11 +248,11 @@ unfoldable mutual
       let t = Return' n value in
       let out = out_of context.copy t ∷ [] in
       enter context t (entry_of context.copy out value)
-        ++ (all_edges context out value ++ on context (out_of context.copy t) context.jumps.returns)
+      ++ (all_edges context out value ++ on context (out_of context.copy t) context.jumps.returns)
   edges context exits (Throw' n e) =
       let t = Throw' n e in
       enter context t (in_of context.copy e ∷ [])
-        ++ (edges context (Then (out_of context.copy t ∷ [])) e ++ on context (out_of context.copy t) [])
+      ++ (edges context (Then (out_of context.copy t ∷ [])) e ++ on context (out_of context.copy t) [])
   edges context exits (Shut' n) = enter context (Shut' n) []
 
   pub all_edges : FlowContext → List Node → Trees → List Edge
@@ -287,4 +287,4 @@ body_nodes parameters body = entry_node ∷ params_node parameters ∷ (all_node
 abbrev pub body_edges : List ℕ → Trees → List Edge
 body_edges parameters body =
     on outside entry_node (params_node parameters ∷ [])
-      ++ (on outside (params_node parameters) (entry_of 0 (end_node ∷ []) body) ++ all_edges in_body (end_node ∷ []) body)
+    ++ (on outside (params_node parameters) (entry_of 0 (end_node ∷ []) body) ++ all_edges in_body (end_node ∷ []) body)

@@ -15,11 +15,12 @@ pub record Resolved : Type 0 where
 -- what a declaration at a place is to a name
 abbrev pub named_by : ℕ → Declaration → Named
 named_by place d = elim d.kind [
-    kind.Local ↦ named.Variable place (not d.is_var)
+  | kind.Local ↦ named.Variable place (not d.is_var)
   | kind.Parameter ↦ named.Variable place (not d.is_var)
   | kind.Function f ↦ named.Function f (not d.is_nothing)
   | kind.BuiltIn ↦ named.BuiltIn d.name (not d.is_nothing)
-  | _ ↦ named.Other ]
+  | _ ↦ named.Other
+]
 
 abbrev pub named_if : ℕ → Option Declaration → Named
 named_if place (Some d) = named_by place d

@@ -13,7 +13,7 @@ returns c =
     let both = c.in_ok-lead-2.ensures in
     record {
       grows = told (then c.in_ok-n.ensures.grows (then more both)) refl
-        (λ ns h.
+          (λ ns h.
           append-nil _ ∙ ap (λ m. lead m (node_at ns c.args.if_true ∷ node_at ns c.args.if_false ∷ []) ++ lead m (map (node_at ns) c.args.context.always.now)) (c.in_ok-n.ensures.is_found ns (back more ns (back both ns h))));
       is_found = λ ns h. c.in_ok-n.ensures.is_found ns (back more ns (back both ns h));
     }

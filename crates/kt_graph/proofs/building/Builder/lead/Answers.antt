@@ -10,7 +10,7 @@ use Rattle.kt_graph.proofs.building.Builder.lead.Goals as goal
 lead_more : (ns : List Node) (from i j : ℕ) (to : List ℕ) → j < length to → i ≡ suc j → edge_at ns (record { from = from; to = get_or to j 0 }) ∷ lead (node_at ns from) (map (node_at ns) (drop i to)) ≡ lead (node_at ns from) (map (node_at ns) (drop j to))
 lead_more ns from i j to h e =
     ap (λ k. edge_at ns (record { from = from; to = get_or to j 0 }) ∷ lead (node_at ns from) (map (node_at ns) (drop k to))) e
-      ∙ sym (ap (λ l. lead (node_at ns from) (map (node_at ns) l)) (drop-cons to j 0 h))
+    ∙ sym (ap (λ l. lead (node_at ns from) (map (node_at ns) l)) (drop-cons to j 0 h))
 
 pub loop-i-preserved : goal.loop-i-preserved
 loop-i-preserved c = record {
