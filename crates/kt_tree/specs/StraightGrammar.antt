@@ -15,7 +15,6 @@ use Rattle.kt_tree.specs.declared.word.WordKind.{WordKind}
 use Rattle.kt_tree.specs.declared.word.WordKind.TheVariants as word
 use Rattle.kt_tree.specs.declared.tree.Ident.{Ident}
 use Rattle.kt_tree.specs.declared.tree.Expr.{Expr}
-use Rattle.kt_tree.specs.declared.tree.ExprKind.{ExprKind}
 use Rattle.kt_tree.specs.declared.tree.ExprKind.TheVariants as expr
 use Rattle.kt_tree.specs.declared.tree.Stmt.{Stmt}
 use Rattle.kt_tree.specs.declared.tree.StmtKind.{StmtKind}

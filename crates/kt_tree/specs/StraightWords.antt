@@ -3,11 +3,10 @@
 -- From the Kotlin specification, "Syntax and grammar", lexical part, narrowed: identifiers of ASCII letters, digits and `_`; hard keywords;
 -- decimal integers up to 2147483647 without a leading zero and without `_`; the signs ( ) { } : = . Between tokens stand spaces and LF.
 -- The longest token counts. A list of whole tokens, each with its bytes; the code moves a cursor and keeps a table of names.
-use Rattle.std.specs.Prelude.{ℕ, zero, suc, ◌+◌, ◌-◌, ◌*◌, ◌≤◌, Bool, true, false, ◌&&◌, ◌||◌, not, ◌==◌, nat_le, nat_lt, List, [], ◌∷◌, ◌++◌, length, take, drop, take_while, if◌then◌else◌, codes, fold, pos}
+use Rattle.std.specs.Prelude.{ℕ, zero, suc, ◌+◌, ◌-◌, ◌*◌, Bool, true, false, ◌&&◌, ◌||◌, not, ◌==◌, nat_le, nat_lt, List, [], ◌∷◌, length, take, drop, take_while, if◌then◌else◌, codes, fold, pos}
 use Rattle.std.specs.Str.{bytes_eq}
-use Rattle.std.specs.List.{list_any, list_all}
+use Rattle.std.specs.List.{list_any}
 use Rattle.kt_tree.specs.Names.{place_of, with_text}
-use Rattle.kt_tree.specs.declared.token.Span.{Span}
 use Rattle.kt_tree.specs.declared.word.Word.{Word}
 use Rattle.kt_tree.specs.declared.word.WordKind.{WordKind}
 use Rattle.kt_tree.specs.declared.word.WordKind.TheVariants as word

@@ -4,6 +4,7 @@ use Rattle.kt_tree.specs.declared.token.Kind.{Kind}
 use Rattle.kt_tree.specs.declared.token.Kind.TheVariants.{End}
 use Rattle.kt_tree.specs.declared.token.Token.{Token}
 
+-- the kind is the end of the file
 abbrev pub is_end : Kind → Bool
 is_end End = true
 is_end kind = false
