@@ -1,12 +1,12 @@
 #!/usr/bin/env python3
 """Times of `solve` and `solve_once` beside those of the plain worklist of worklist.c, over the same graphs in the same run.
 
-Build crates/kt_solve_trials first (`rt run </dev/null` in its folder). Each time is the least of several, of processor time without what it
+Build crates/solve_cases first (`rt run </dev/null` in its folder). Each time is the least of several, of processor time without what it
 takes to read the graph. Prints a table, and ends with an error where the two programs find other rows."""
 import pathlib, random, re, subprocess, sys, tempfile
 
 HERE = pathlib.Path(__file__).resolve().parent
-OURS = HERE.parent.parent / "crates/kt_solve_trials/out/kt_solve_trials"
+OURS = HERE.parent.parent / "crates/solve_cases/out/solve_cases"
 
 
 def chain(nodes, pairs, numbering):

@@ -1,4 +1,4 @@
-/* A plain worklist over the same graphs as crates/kt_solve_trials reads, for the ratio of their times: a queue of waiting nodes, a byte a
+/* A plain worklist over the same graphs as crates/solve_cases reads, for the ratio of their times: a queue of waiting nodes, a byte a
    node that says whether it waits, rows of 64-bit words, the edges of a node side by side, and the effects of a node as a list of ranges.
    It reads the commands of that program, and prints for `time` what that program prints, with the time of its own solver. */
 #include <stdint.h>
