@@ -1,4 +1,4 @@
-use Rattle.std.specs.Prelude.{◌≡◌, ℕ, ◌+◌, ◌-◌, ◌<◌, ◌≤◌, Bool, true, false, cond, ◌&&◌, eqb, leb, ltb, List, [], ◌∷◌, ◌++◌}
+use Rattle.std.specs.Prelude.{◌≡◌, ℕ, ◌+◌, ◌-◌, ◌<◌, ◌≤◌, Bool, true, false, if◌then◌else◌, ◌&&◌, nat_eq, nat_le, nat_lt, List, [], ◌∷◌, ◌++◌}
 use Rattle.std.specs.List.{All, Contains}
 use Rattle.kt_solve.specs.declared.effect.Transfer.{Transfer}
 use Rattle.kt_solve.specs.declared.effect.Transfer.TheVariants.{Keep, Set, Clear, CopyFrom}
@@ -21,10 +21,10 @@ nothing_set _ = false
 
 -- An effect speaks of a range of pairs at one node.
 abbrev pub in_range : Effect → ℕ → Bool
-in_range e pair = leb e.first pair && ltb pair (e.first + e.count)
+in_range e pair = nat_le e.first pair && nat_lt pair (e.first + e.count)
 
 abbrev pub covers : Effect → ℕ → ℕ → Bool
-covers e node pair = eqb e.node node && in_range e pair
+covers e node pair = nat_eq e.node node && in_range e pair
 
 -- What a transfer says of the pair i places into its range: the pair copied from moves along.
 abbrev pub moved : Transfer → ℕ → Transfer
@@ -37,7 +37,7 @@ moved (CopyFrom source) i = CopyFrom (source + i)
 abbrev pub transfer_after : List Effect → ℕ → ℕ → Transfer → Transfer
 transfer_after [] node pair t = t
 transfer_after (e ∷ rest) node pair t =
-    transfer_after rest node pair (cond (covers e node pair) (moved e.transfer (pair - e.first)) t)
+    transfer_after rest node pair (if covers e node pair then moved e.transfer (pair - e.first) else t)
 
 -- The transfer of a pair at a node; a pair of which no effect speaks is kept.
 abbrev pub transfer_of : Flow → ℕ → ℕ → Transfer

@@ -1,4 +1,4 @@
-use Rattle.std.specs.Prelude.{ℕ, Bool, true, false, not, List, get_or, ◌+◌, sum}
+use Rattle.std.specs.Prelude.{ℕ, Bool, true, false, not, List, slice_index_or, ◌+◌, sum}
 use Rattle.std.specs.List.{count_by}
 use Rattle.kt_solve.specs.declared.mark.Mark.{Mark}
 use Rattle.kt_solve.specs.declared.mark.Mark.TheVariants.{Unreached, Waiting, Read}
@@ -20,7 +20,7 @@ is_read Read = true
 
 -- the mark of a node; a node past the end is not reached
 abbrev pub mark_at : List Mark → ℕ → Mark
-mark_at marks node = get_or marks node Unreached
+mark_at marks node = slice_index_or marks node Unreached
 
 -- How much can still go: the nodes that are not reached, and the words of all rows read as numbers.
 abbrev pub weight : List Mark → List ℕ → ℕ

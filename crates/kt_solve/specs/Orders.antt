@@ -1,4 +1,4 @@
-use Rattle.std.specs.Prelude.{◌≡◌, ℕ, suc, ◌<◌, ◌≤◌, cond, eqb, List, [], ◌∷◌, length, get_or}
+use Rattle.std.specs.Prelude.{◌≡◌, ℕ, suc, ◌<◌, ◌≤◌, if◌then◌else◌, nat_eq, List, [], ◌∷◌, length, slice_index_or}
 use Rattle.std.specs.List.{All}
 use Rattle.kt_solve.specs.declared.effect.Transfer.{Transfer}
 use Rattle.kt_solve.specs.declared.effect.Transfer.TheVariants.{Keep, Set, Clear, CopyFrom}
@@ -9,14 +9,14 @@ use Rattle.kt_solve.specs.Flow.{Flow, HasEdge, transfer_of}
 -- Where a node stands in an order; the length where it doesn't.
 abbrev pub place_of : List ℕ → ℕ → ℕ
 place_of [] node = 0
-place_of (x ∷ rest) node = cond (eqb x node) 0 (suc (place_of rest node))
+place_of (x ∷ rest) node = if nat_eq x node then 0 else suc (place_of rest node)
 
 -- The order lists each node once, the entry first.
 pub record IsOrder (p : Flow) (order : List ℕ) : Type 0 where
   pub len : length order ≡ p.nodes
   pub within : All (λ (n : ℕ). n < p.nodes) order
   pub listed : (n : ℕ) → n < p.nodes → place_of order n < length order
-  pub once : (i : ℕ) → i < length order → place_of order (get_or order i 0) ≡ i
+  pub once : (i : ℕ) → i < length order → place_of order (slice_index_or order i 0) ≡ i
   pub first : place_of order p.entry ≡ 0
 
 -- A transfer that can take a pair away: it clears the pair or copies into it.

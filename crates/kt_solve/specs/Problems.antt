@@ -1,4 +1,4 @@
-use Rattle.std.specs.Prelude.{◌≡◌, ℕ, ◌<◌, List, length, get_or, map}
+use Rattle.std.specs.Prelude.{◌≡◌, ℕ, ◌<◌, List, length, slice_index_or, map}
 use Rattle.kt_solve.specs.declared.effect.Edge.{Edge}
 use Rattle.kt_solve.specs.declared.effect.Effect.{Effect}
 use Rattle.kt_solve.specs.declared.problem.LinkedEdge.{LinkedEdge}
@@ -10,7 +10,7 @@ edges_in linked = map (λ (l : LinkedEdge). l.edge) linked
 
 -- the link to the edge that was given before edge k from the same node
 abbrev pub before_at : List LinkedEdge → ℕ → ℕ
-before_at linked k = (get_or linked k (record { edge = record { from = 0; to = 0 }; before = 0 })).before
+before_at linked k = (slice_index_or linked k (record { edge = record { from = 0; to = 0 }; before = 0 })).before
 
 abbrev pub flow_of : ℕ → ℕ → ℕ → List LinkedEdge → List Effect → Flow
 flow_of nodes pairs entry linked effects = record { nodes = nodes; pairs = pairs; entry = entry; edges = edges_in linked; effects = effects }
@@ -19,5 +19,5 @@ flow_of nodes pairs entry linked effects = record { nodes = nodes; pairs = pairs
 pub record IsProblem (nodes pairs entry : ℕ) (linked : List LinkedEdge) (last : List ℕ) (effects : List Effect) : Type 0 where
   pub within : IsWithin (flow_of nodes pairs entry linked effects)
   pub lasts : length last ≡ nodes
-  pub last_is : (node : ℕ) → node < nodes → IsLink (edges_in linked) (length (edges_in linked)) node (get_or last node 0)
-  pub before_is : (k : ℕ) → k < length (edges_in linked) → IsLink (edges_in linked) k (get_or (edges_in linked) k (record { from = 0; to = 0 })).from (before_at linked k)
+  pub last_is : (node : ℕ) → node < nodes → IsLink (edges_in linked) (length (edges_in linked)) node (slice_index_or last node 0)
+  pub before_is : (k : ℕ) → k < length (edges_in linked) → IsLink (edges_in linked) k (slice_index_or (edges_in linked) k (record { from = 0; to = 0 })).from (before_at linked k)

@@ -1,4 +1,4 @@
-use Rattle.std.specs.Prelude.{◌≡◌, ◌≢◌, ℕ, ◌*◌, ◌<◌, ◌≤◌, Bool, true, false, cond, ◌&&◌, List, [], ◌∷◌, ◌++◌, length, set}
+use Rattle.std.specs.Prelude.{◌≡◌, ◌≢◌, ℕ, ◌*◌, ◌<◌, ◌≤◌, Bool, true, false, if◌then◌else◌, ◌&&◌, List, [], ◌∷◌, ◌++◌, length, set}
 use Rattle.kt_solve.specs.declared.mark.Mark.{Mark}
 use Rattle.kt_solve.specs.declared.mark.Mark.TheVariants.{Waiting}
 use Rattle.kt_solve.specs.Chains.{IsChained, edge_at}
@@ -43,13 +43,14 @@ IsAfter p node before out = (pair : ℕ) → pair < p.pairs → out pair ≡ aft
 pub record Spreads (pairs : ℕ) (out : ℕ → Bool) (to : ℕ) (marks marks' : List Mark) (has has' : ℕ → ℕ → Bool) (changed : Bool) : Type 0 where
   pub others : (node pair : ℕ) → node ≢ to → pair < pairs → has' node pair ≡ has node pair
   pub row : (pair : ℕ) → pair < pairs → has' to pair ≡ (has to pair && out pair)
-  pub marks_are : marks' ≡ cond changed (set marks to Waiting) marks
+  pub marks_are : marks' ≡ (if changed then set marks to Waiting else marks)
   pub reached : is_reached (mark_at marks' to) ≡ true
   pub same : changed ≡ false → (pair : ℕ) → pair < pairs → has' to pair ≡ has to pair
 
 -- A step lessens the weight where it changed a row or reached a node, and leaves it where it did not.
 abbrev pub Advances : Bool → List Mark → List Mark → List ℕ → List ℕ → Type 0
-Advances changed marks marks' words words' = cond changed (weight marks' words' < weight marks words) (weight marks' words' ≡ weight marks words)
+Advances true marks marks' words words' = weight marks' words' < weight marks words
+Advances false marks marks' words words' = weight marks' words' ≡ weight marks words
 
 -- While the edges of a node are read: the edges of the other nodes are settled, and those of its own from number `from` on
 -- have been taken over. `row` is the row with which the reading began, `out` the state after the effects.

@@ -1,4 +1,4 @@
-use Rattle.std.specs.Prelude.{◌≡◌, ℕ, ◌+◌, ◌<◌, ◌≤◌, ◌⊎◌, Bool, true, false, eqb, List, length, get_or}
+use Rattle.std.specs.Prelude.{◌≡◌, ℕ, ◌+◌, ◌<◌, ◌≤◌, ◌⊎◌, Bool, true, false, nat_eq, List, length, slice_index_or}
 use Rattle.std.specs.List.{count_by, sum_by}
 use Rattle.kt_solve.specs.declared.effect.Edge.{Edge}
 use Rattle.kt_solve.specs.declared.mark.Mark.{Mark}
@@ -46,11 +46,11 @@ pub record IsPassing (p : Flow) (place : ℕ → ℕ) (n : ℕ) (row out : ℕ �
 -- the places of the nodes, by node
 pub record ArePlaces (order places : List ℕ) (nodes : ℕ) : Type 0 where
   pub len : length places ≡ nodes
-  pub at : (n : ℕ) → n < nodes → get_or places n 0 ≡ place_of order n
+  pub at : (n : ℕ) → n < nodes → slice_index_or places n 0 ≡ place_of order n
 
 -- how many of some edges a node has
 abbrev pub edges_from : List Edge → ℕ → ℕ
-edges_from es node = count_by (λ (e : Edge). eqb e.from node) es
+edges_from es node = count_by (λ (e : Edge). nat_eq e.from node) es
 
 -- how many of some edges the nodes of a list have
 abbrev pub edges_of : List Edge → List ℕ → ℕ

@@ -1,4 +1,4 @@
-use Rattle.std.specs.Prelude.{◌≡◌, ℕ, ◌*◌, ◌<◌, ◌≤◌, Bool, false, ◌&&◌, ◌↔◌, List, [], length, get_or, map, IsTrue}
+use Rattle.std.specs.Prelude.{◌≡◌, ℕ, ◌*◌, ◌<◌, ◌≤◌, Bool, false, ◌&&◌, ◌↔◌, List, [], length, slice_index_or, map, IsTrue}
 use Rattle.std.specs.List.{range_with_len}
 use Rattle.kt_solve.specs.declared.mark.Mark.{Mark}
 use Rattle.kt_solve.specs.Flow.{Flow, IsReached, Holds}
@@ -13,10 +13,10 @@ pub record Table : Type 0 where
   pub rows : List (List Bool)
 
 abbrev pub reached_at : Table → ℕ → Bool
-reached_at t node = get_or t.reached node false
+reached_at t node = slice_index_or t.reached node false
 
 abbrev pub set_at : Table → ℕ → ℕ → Bool
-set_at t node pair = get_or (get_or t.rows node []) pair false
+set_at t node pair = slice_index_or (slice_index_or t.rows node []) pair false
 
 abbrev pub holds_at : Table → ℕ → ℕ → Bool
 holds_at t node pair = reached_at t node && set_at t node pair

@@ -1,4 +1,4 @@
-use Rattle.std.specs.Prelude.{◌≡◌, ℕ, ◌<◌, ◌≤◌, Bool, true, false, List, length, get_or}
+use Rattle.std.specs.Prelude.{◌≡◌, ℕ, ◌<◌, ◌≤◌, Bool, true, false, List, length, slice_index_or}
 use Rattle.std.specs.List.{All, Contains}
 use Rattle.kt_solve.specs.declared.postorder.Progress.{Progress}
 use Rattle.kt_solve.specs.declared.postorder.Progress.TheVariants.{Unseen, Open, Left}
@@ -22,4 +22,4 @@ pub record IsWalk (p : Flow) (links : List ℕ) (progress : List Progress) (stac
   pub progress_len : length progress ≡ p.nodes
   pub stack_within : All (λ (n : ℕ). n < p.nodes) stack
   pub order_within : All (λ (n : ℕ). n < p.nodes) order
-  pub listed : (n : ℕ) → is_left (get_or progress n Unseen) ≡ true → Contains order n
+  pub listed : (n : ℕ) → is_left (slice_index_or progress n Unseen) ≡ true → Contains order n

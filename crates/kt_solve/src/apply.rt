@@ -1,4 +1,4 @@
-ghost use Rattle.std.specs.Prelude.{◌≡◌, ℕ, ◌+◌, ◌-◌, ◌*◌, ◌/◌, ◌%◌, ◌^◌, ◌<◌, ◌≤◌, cond, length};
+ghost use Rattle.std.specs.Prelude.{◌≡◌, ℕ, ◌+◌, ◌-◌, ◌*◌, ◌/◌, ◌%◌, ◌^◌, ◌<◌, ◌≤◌, if◌then◌else◌, length};
 ghost use Rattle.kt_solve.specs.Chains.{IsChained};
 ghost use Rattle.kt_solve.specs.Flow.{moved, outcome, in_range, after, transfer_of, IsWithin, RangeFits};
 ghost use Rattle.kt_solve.specs.Words.{bit_of, word_bit};
@@ -30,7 +30,7 @@ fn apply_one(effect: &Effect, before: &[u64], out: &mut [u64])
     requires fits { RangeFits 4294967295 effect.now }
     requires row { effect.now.first + effect.now.count ≤ 64 * length before.now }
     requires lens { length out.old ≡ length before.now }
-    ensures { (q : ℕ) → word_bit out.new q ≡ cond (in_range effect.now q) (outcome (moved effect.now.transfer (q - effect.now.first)) (word_bit before.now) q) (word_bit out.old q) }
+    ensures { (q : ℕ) → word_bit out.new q ≡ (if in_range effect.now q then outcome (moved effect.now.transfer (q - effect.now.first)) (word_bit before.now) q else word_bit out.old q) }
 {
     let end = effect.first + effect.count;
     let mut pair = effect.first;

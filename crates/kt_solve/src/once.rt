@@ -1,4 +1,4 @@
-ghost use Rattle.std.specs.Prelude.{◌≡◌, ℕ, ◌+◌, ◌*◌, ◌<◌, ◌≤◌, length, get_or, replicate, IfOk, OnOk, OnErr};
+ghost use Rattle.std.specs.Prelude.{◌≡◌, ℕ, ◌+◌, ◌*◌, ◌<◌, ◌≤◌, length, slice_index_or, replicate, IfOk, OnOk, OnErr};
 ghost use Rattle.kt_solve.specs.declared.mark.Mark.TheVariants.{Unreached};
 ghost use Rattle.kt_solve.specs.Orders.{CanSolveOnce, HasLoops, IsOrder, place_of};
 ghost use Rattle.kt_solve.specs.Search.{IsOver};
@@ -27,12 +27,12 @@ fn pass<L: Ledger>(
     words: &mut [u64],
     steps: &mut Steps<L>,
 )
-    requires pass { CanPass p.now (λ n. get_or places.now n 0) node marks.old (row_bit words.old (length out.now)) (word_bit out.now) }
+    requires pass { CanPass p.now (λ n. slice_index_or places.now n 0) node marks.old (row_bit words.old (length out.now)) (word_bit out.now) }
     requires places { length places.now ≡ p.now.nodes }
     requires rows { p.now.nodes * length out.now ≤ length words.old }
     requires wide { p.now.pairs ≤ 64 * length out.now }
-    ensures sweep { IsSweep p.now (λ n. get_or places.now n 0) (get_or places.now node 0 + 1) marks.new (row_bit words.new (length out.now)) }
-    ensures settled { IsSettledBelow p.now (λ n. get_or places.now n 0) (get_or places.now node 0 + 1) marks.new (row_bit words.new (length out.now)) }
+    ensures sweep { IsSweep p.now (λ n. slice_index_or places.now n 0) (slice_index_or places.now node 0 + 1) marks.new (row_bit words.new (length out.now)) }
+    ensures settled { IsSettledBelow p.now (λ n. slice_index_or places.now n 0) (slice_index_or places.now node 0 + 1) marks.new (row_bit words.new (length out.now)) }
     ensures steps { steps.new ≡ steps.old + edges_from p.now.edges node }
 {
     let place = places[node as usize];
@@ -62,9 +62,9 @@ fn sweep_once<L: Ledger>(
     requires over { IsOver p.now chains.now.first.items chains.now.next.items words.old out.old }
     requires order { IsOrder p.now order.now }
     requires places { ArePlaces order.now places.now p.now.nodes }
-    requires sweep { IsSweep p.now (λ n. get_or places.now n 0) 0 marks.old (row_bit words.old (length out.old)) }
-    ensures sweep { IsSweep p.now (λ n. get_or places.now n 0) p.now.nodes marks.new (row_bit words.new (length out.old)) }
-    ensures settled { IsSettledBelow p.now (λ n. get_or places.now n 0) p.now.nodes marks.new (row_bit words.new (length out.old)) }
+    requires sweep { IsSweep p.now (λ n. slice_index_or places.now n 0) 0 marks.old (row_bit words.old (length out.old)) }
+    ensures sweep { IsSweep p.now (λ n. slice_index_or places.now n 0) p.now.nodes marks.new (row_bit words.new (length out.old)) }
+    ensures settled { IsSettledBelow p.now (λ n. slice_index_or places.now n 0) p.now.nodes marks.new (row_bit words.new (length out.old)) }
     ensures steps { steps.new ≡ steps.old + edges_of p.now.edges order.now }
 {
     for node in order {

@@ -1,4 +1,4 @@
-ghost use Rattle.std.specs.Prelude.{◌≡◌, ℕ, ◌+◌, ◌-◌, ◌<◌, ◌≤◌, ◌↔◌, IsTrue, List, length, get_or, slice_index, IfOk};
+ghost use Rattle.std.specs.Prelude.{◌≡◌, ℕ, ◌+◌, ◌-◌, ◌<◌, ◌≤◌, ◌↔◌, IsTrue, List, length, slice_index_or, slice_index, IfOk};
 ghost use Rattle.std.specs.List.{All};
 ghost use Rattle.kt_solve.specs.declared.effect.Transfer.TheVariants.{Clear};
 ghost use Rattle.kt_solve.specs.Chains.{IsChained};

@@ -1,4 +1,4 @@
-ghost use Rattle.std.specs.Prelude.{◌≡◌, ℕ, ◌+◌, ◌-◌, ◌*◌, ◌/◌, ◌%◌, ◌<◌, ◌≤◌, ◌&&◌, cond, eqb, leb, ltb, length, slice_index};
+ghost use Rattle.std.specs.Prelude.{◌≡◌, ℕ, ◌+◌, ◌-◌, ◌*◌, ◌/◌, ◌%◌, ◌<◌, ◌≤◌, ◌&&◌, if◌then◌else◌, nat_eq, nat_le, nat_lt, length, slice_index};
 ghost use Rattle.kt_solve.specs.Words.{bit_of, word_bit};
 
 /// A word of a row, 0 past its end.
@@ -35,7 +35,7 @@ pub(crate) fn bits_between(low: u32, high: u32) -> u64
     requires low { low < 64 }
     requires some { 0 < high }
     requires high { high ≤ 64 }
-    ensures { (i : ℕ) → i < 64 → bit_of result i ≡ (leb low i && ltb i high) }
+    ensures { (i : ℕ) → i < 64 → bit_of result i ≡ (nat_le low i && nat_lt i high) }
 {
     (u64::MAX << low) & (u64::MAX >> (64 - high))
 }
@@ -43,7 +43,7 @@ pub(crate) fn bits_between(low: u32, high: u32) -> u64
 /// Writes the bits of `value` that `mask` has into a word.
 pub(crate) fn put_bits(words: &mut [u64], at: usize, value: u64, mask: u64)
     requires { at < length words.old }
-    ensures { (q : ℕ) → word_bit words.new q ≡ cond (eqb (q / 64) at && bit_of mask (q % 64)) (bit_of value (q % 64)) (word_bit words.old q) }
+    ensures { (q : ℕ) → word_bit words.new q ≡ (if nat_eq (q / 64) at && bit_of mask (q % 64) then bit_of value (q % 64) else word_bit words.old q) }
 {
     words[at] = (words[at] & !mask) | (value & mask);
 }

@@ -4,7 +4,7 @@
 //! It stands on `kt_solve` and `rand_pcg`; nothing stands above it. A line is a command:
 //! `graph NAME NODES PAIRS ENTRY`; `edge FROM TO`; `set`, `clear` or `keep` with `NODE FIRST COUNT`;
 //! `copy NODE FIRST COUNT SOURCE`; `order NODE` for the next node of the order of `solve_once`; `rows`;
-//! `random NAME SEED GRAPHS NODES PAIRS`; `time` for the measurements. An empty line, and one that begins
+//! `random NAME SEED GRAPHS NODES PAIRS`; `time ROUNDS` for the measurements. An empty line, and one that begins
 //! with `#`, is none.
 #![tactic(auto)]
 
@@ -32,7 +32,7 @@ fn answer(rt: &HostRuntime, given: &mut Given, words: &[&str]) -> Result<Option<
             let counts = (graphs.parse()?, nodes.parse()?, pairs.parse()?);
             Ok(Some(chance::compare_random(alloc, name, seed.parse()?, counts)?))
         }
-        ["time"] => Ok(Some(time::time(rt, given)?)),
+        ["time", rounds] => Ok(Some(time::time(rt, given, rounds.parse()?)?)),
         _ => {
             describe(given, words)?;
             Ok(None)

@@ -1,5 +1,5 @@
 use Rattle.std.proofs.Common.{◌≡◌}
-use Rattle.kt_solve_trials.proofs.given.Given.problem.Given as goal
+use Rattle.solve_cases.proofs.given.Given.problem.Given as goal
 
 abbrev pub invariant-loop-edge : goal.invariant-loop-edge
 invariant-loop-edge l = (l.p.nodes ≡ l.self.nodes) × (l.p.pairs ≡ l.self.pairs)
