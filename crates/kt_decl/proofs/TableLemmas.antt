@@ -87,9 +87,9 @@ written_of file = ap (λ z. built_in_supers ++ z) (written_from file built_in_cl
 pub rowed_of : (file : File) (aboves : Classes) (rows : List ClassRow) → length aboves ≡ built_in_classes + length file.classes → HaveAboves file aboves → outlines rows ≡ outlines_of file → AreRowsOf aboves rows → length rows ≤ length aboves → IsRowed rows
 rowed_of file aboves rows long have is rows_are within = record {
   aboves = λ c row at. (
-    let inside = slice_get_within rows c row at in
-    (rows_are c row at).0 ∙ have c (omega arith) ∙ ap (λ z. supers z c) (sym (ap written is ∙ written_of file))
-  );
+      let inside = slice_get_within rows c row at in
+      (rows_are c row at).0 ∙ have c (omega arith) ∙ ap (λ z. supers z c) (sym (ap written is ∙ written_of file))
+      );
   few = λ c row at. (rows_are c row at).1;
 }
 

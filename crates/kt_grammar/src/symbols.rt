@@ -4,7 +4,9 @@ ghost use Rattle.std.specs.Option.{option_map};
 ghost use Rattle.kt_tree.specs.Grammar as spec;
 
 use crate::rows::row;
-use kt_tree::grammar::Step::{Add, Enter, Exclude, Keep, KeepChosen, Leave, Make, Separated, Take, Target};
+use kt_tree::grammar::Step::{
+    Add, Enter, Exclude, Keep, KeepChosen, Leave, Make, Separated, Take, Target,
+};
 use kt_tree::grammar::Symbol::{Do, Part};
 use kt_tree::grammar::{
     Class, Form as F, Nonterminal as N, Production as P, Symbol, Terminal as T,

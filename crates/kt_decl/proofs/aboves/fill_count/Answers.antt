@@ -29,10 +29,10 @@ loop-i-preserved c =
           }
           )
       | else-counts-i w ↦ rw w.aboves-is record {
-          len = i.len;
-          filled = i.filled;
-          here = filled_past classes counts c.args.count old.items c.loop-i.i w.if-counts-i.false i.here;
-        }
+        len = i.len;
+        filled = i.filled;
+        here = filled_past classes counts c.args.count old.items c.loop-i.i w.if-counts-i.false i.here;
+      }
     ]
 
 pub returns : goal.returns

@@ -17,7 +17,7 @@ loop-n-preserved c =
 
 pub returns : goal.returns
 returns c = λ k d b. (
-  let i = c.loop-n.invariant.all k (omega arith) in
-  let e = get_or_default c.args.counts.now k d 0 b in
-  omega (arith, i, e)
-)
+    let i = c.loop-n.invariant.all k (omega arith) in
+    let e = get_or_default c.args.counts.now k d 0 b in
+    omega (arith, i, e)
+    )
