@@ -80,6 +80,13 @@ def tangled(nodes, pairs):
     return lines
 
 
+def shifting(nodes, pairs):
+    """A loop round which each pair moves on by one place, so that each round loses one: as many rounds as pairs."""
+    lines = [f"graph shifting {nodes} {pairs} 0", f"set 0 0 {pairs}", "clear 1 0 1", f"copy 1 1 {pairs - 1} 0"]
+    lines += [f"edge {node - 1} {node}" for node in range(1, nodes)]
+    return lines + [f"edge {nodes - 1} 1"]
+
+
 def run(program, text, rounds):
     """The least times that a program prints for a graph, what holds, and its peak memory in KiB."""
     with tempfile.TemporaryFile("w+") as file:
@@ -96,7 +103,7 @@ def measure(lines, folder):
     nodes, pairs = int(words[2]), int(words[3])
     edges = sum(line.startswith("edge") for line in lines)
     cells = nodes * pairs
-    rounds = 2 if cells > 1 << 28 else 7 if cells > 1 << 22 else 25
+    rounds = 3 if cells > 1 << 28 else 25 if cells > 1 << 22 else 200
     text = "\n".join(lines)
     solve, once, rows, memory = run(OURS, text, rounds)
     plain, _, plain_rows, plain_memory = run(folder / "worklist", text, rounds)
@@ -123,6 +130,8 @@ def main():
             measure(body(1000, pairs), folder)
         for nodes in (100, 1000, 10000):
             measure(tangled(nodes, 256), folder)
+        for pairs in (64, 640):
+            measure(shifting(1000, pairs), folder)
         for numbering in ("along", "shuffled", "against"):
             measure(chain(65536, 64, numbering), folder)
         if "--large" in sys.argv:
