@@ -63,11 +63,7 @@ pub(crate) fn no_marks(alloc: Global, len: usize) -> Result<Vec<bool>, NoMemory>
 }
 
 /// The classes that are properly above one.
-fn classes_above(
-    alloc: Global,
-    classes: &[Numbers],
-    class: u32,
-) -> Result<Vec<u32>, NoMemory>
+fn classes_above(alloc: Global, classes: &[Numbers], class: u32) -> Result<Vec<u32>, NoMemory>
     requires known { class < length classes.now }
     requires closed { HasKnownSupers classes.now }
     ensures members { IfOk result (λ above. (d : ℕ) → Contains above.items d ↔ IsProperlyAbove classes.now class d) }
@@ -126,5 +122,4 @@ pub(crate) fn is_ranked(classes: &[Numbers], counts: &[usize])
     ensures ranked { IsRanked classes.now }
     ensures falls { FallsAlong classes.now counts.now }
     ensures below { All (λ n. n ≤ length classes.now) counts.now }
-{
-}
+{}

@@ -256,7 +256,10 @@ fn has_private(rows: &[ClassRow], members: &[Member]) -> bool
 fn count_bodies(rows: &[ClassRow], members: &[Member]) -> usize
     ensures { result ≡ count_by (λ m. not (spec.is_abstract_at (outlines rows.now) m)) members.now }
 {
-    members.iter().filter(|m| !is_abstract_at(rows, **m)).count()
+    members
+        .iter()
+        .filter(|m| !is_abstract_at(rows, **m))
+        .count()
 }
 
 fn has_body_in_interface(rows: &[ClassRow], m: Member) -> bool
@@ -336,7 +339,10 @@ fn first_fitting(rows: &[ClassRow], members: &[Member]) -> Option<Member>
     requires { IsRowed rows.now }
     ensures { result ≡ find (spec.is_fitting (outlines rows.now) members.now) members.now }
 {
-    members.iter().copied().find(|m| is_fitting(rows, members, *m))
+    members
+        .iter()
+        .copied()
+        .find(|m| is_fitting(rows, members, *m))
 }
 
 fn fitting(rows: &[ClassRow], members: &[Member]) -> Option<Member>

@@ -11,11 +11,14 @@ ghost use Rattle.kt_model.specs.Outlines as spec;
 
 use crate::sites::body_gives_unit;
 use crate::words::class_body;
-use kt_model::kinds::{Head, KtType, Types};
 use kt_model::class_table::ParamType;
+use kt_model::kinds::{Head, KtType, Types};
 use kt_model::top_names::TopNames;
 use kt_tree::NoMemory;
-use kt_tree::ast::{ClassParameter, Expr, ExprKind, File, FunctionDecl, Member, Parameter, ParameterType, PropertyDecl, TypeRef};
+use kt_tree::ast::{
+    ClassParameter, Expr, ExprKind, File, FunctionDecl, Member, Parameter, ParameterType,
+    PropertyDecl, TypeRef,
+};
 use sqlite_items::Items;
 use std::alloc::Global;
 
@@ -183,11 +186,7 @@ fn created_type(class: Option<u32>) -> Option<KtType>
     }
 }
 
-fn parameter_named(
-    tops: &TopNames,
-    parameters: &[ClassParameter],
-    name: u32,
-) -> Option<KtType>
+fn parameter_named(tops: &TopNames, parameters: &[ClassParameter], name: u32) -> Option<KtType>
     ensures { result ≡ spec.parameter_named tops.now parameters.now name }
 {
     for p in parameters {

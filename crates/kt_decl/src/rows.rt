@@ -12,13 +12,18 @@ ghost use Rattle.kt_model.specs.Outlines as spec;
 ghost use Rattle.kt_decl.specs.Marks.{HasAboves};
 
 use crate::outlines::{Around, parameter_types, plain, property_type, result_type, written_type};
-use crate::supertypes::{BUILT_IN_ABOVE, BUILT_IN_KINDS, is_among, is_interface_keyword, kind_of_class, named_supers, only};
+use crate::supertypes::{
+    BUILT_IN_ABOVE, BUILT_IN_KINDS, is_among, is_interface_keyword, kind_of_class, named_supers,
+    only,
+};
 use crate::words::{class_body, constructor_parameters};
 use kt_model::class_table::{ClassKind, ClassRow, MemberKind, MemberRow, Numbers};
 use kt_model::kinds::{Head, KtType};
 use kt_model::top_names::TopNames;
 use kt_tree::NoMemory;
-use kt_tree::ast::{ClassDecl, ClassParameter, File, FunctionDecl, Member, Modifier, ModifierKind, PropertyDecl};
+use kt_tree::ast::{
+    ClassDecl, ClassParameter, File, FunctionDecl, Member, Modifier, ModifierKind, PropertyDecl,
+};
 use sqlite_items::Items;
 use std::alloc::Global;
 
@@ -56,7 +61,9 @@ fn parameter_row(alloc: Global, tops: &TopNames, p: &ClassParameter) -> Option<M
 fn function_kind(in_interface: bool, f: &FunctionDecl) -> MemberKind
     ensures { result ≡ spec.function_kind in_interface f.now }
 {
-    if is_among(f.modifiers.as_slice(), ModifierKind::Abstract) || (in_interface && !f.body.is_some()) {
+    if is_among(f.modifiers.as_slice(), ModifierKind::Abstract)
+        || (in_interface && !f.body.is_some())
+    {
         MemberKind::AbstractFunction
     } else {
         MemberKind::Function
@@ -96,7 +103,12 @@ fn function_row(
     })
 }
 
-fn declared_property_row(alloc: Global, around: &Around, in_interface: bool, p: &PropertyDecl) -> MemberRow
+fn declared_property_row(
+    alloc: Global,
+    around: &Around,
+    in_interface: bool,
+    p: &PropertyDecl,
+) -> MemberRow
     requires tops { around.now.tops.now ≡ top_names around.now.file.now }
     requires results { around.now.results.now ≡ spec.results_of around.now.file.now }
     ensures { result ≡ spec.declared_property_row (record { file = around.now.file.now; above = around.now.above.now; parameters = around.now.parameters.now }) in_interface p.now }
@@ -194,7 +206,13 @@ fn members_of_class(
         above,
         parameters,
     };
-    push_declared(alloc, &around, is_interface_keyword(c.keyword), class_body(c), &mut members)?;
+    push_declared(
+        alloc,
+        &around,
+        is_interface_keyword(c.keyword),
+        class_body(c),
+        &mut members,
+    )?;
     Ok(members)
 }
 

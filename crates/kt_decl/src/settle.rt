@@ -117,12 +117,7 @@ fn implemented(rows: &[ClassRow], m: Option<Member>) -> Option<Member>
 }
 
 #[tactic(auto, unfolding(kt_model::specs::Members::implementation_of))]
-fn settled_under(
-    alloc: Global,
-    rows: &[ClassRow],
-    c: u32,
-    name: u32,
-) -> Result<Settled, NoMemory>
+fn settled_under(alloc: Global, rows: &[ClassRow], c: u32, name: u32) -> Result<Settled, NoMemory>
     requires rowed { IsRowed rows.now }
     requires known { c < length rows.now }
     ensures { IfOk result (λ settled. settled ≡ spec.settled_at (outlines rows.now) c name) }
@@ -179,7 +174,11 @@ fn each_name_once(alloc: Global, names: &[u32]) -> Result<Vec<u32>, NoMemory>
 
 /// What a class has, under each name once.
 #[tactic(auto, unfolding(kt_model::specs::Members::settled_of))]
-pub(crate) fn settle_class(alloc: Global, rows: &[ClassRow], c: u32) -> Result<Items<Settled>, NoMemory>
+pub(crate) fn settle_class(
+    alloc: Global,
+    rows: &[ClassRow],
+    c: u32,
+) -> Result<Items<Settled>, NoMemory>
     requires rowed { IsRowed rows.now }
     requires known { c < length rows.now }
     ensures { IfOk result (λ settled. settled ≡ spec.settled_of (outlines rows.now) c) }

@@ -4,11 +4,17 @@ ghost use Rattle.std.specs.List.{flat_map, list_any};
 ghost use Rattle.kt_model.specs.Sites.{OfType, OfSuper, OfNames, OfFunctions, written_sites, getter_sites, parameter_sites, function_sites, member_sites, class_sites, file_sites};
 ghost use Rattle.kt_model.specs.DeclarationRules.{where_, has_earlier, is_unit, gives_unit, has_unit_result, has_none, is_main, declaration_rules};
 
-use crate::words::{class_body, class_parameter_words, constructor_parameters, parameter_words, words_of_members, words_of_top};
+use crate::words::{
+    class_body, class_parameter_words, constructor_parameters, parameter_words, words_of_members,
+    words_of_top,
+};
 use kt_model::finding::{Finding, Rule};
 use kt_model::kinds::Head;
 use kt_model::top_names::TopNames;
-use kt_tree::ast::{ClassDecl, ClassParameter, File, FunctionBody, FunctionDecl, Getter, Ident, Member, Parameter, ParameterType, PropertyDecl, Supertype, TypeRef};
+use kt_tree::ast::{
+    ClassDecl, ClassParameter, File, FunctionBody, FunctionDecl, Getter, Ident, Member, Parameter,
+    ParameterType, PropertyDecl, Supertype, TypeRef,
+};
 use kt_tree::{NoMemory, Span};
 use std::alloc::Global;
 
@@ -83,7 +89,11 @@ fn at_types(tops: &TopNames, types: &[TypeRef], out: &mut Vec<Finding>) -> Resul
     Ok(())
 }
 
-fn at_parameter(tops: &TopNames, parameter: &Parameter, out: &mut Vec<Finding>) -> Result<(), NoMemory>
+fn at_parameter(
+    tops: &TopNames,
+    parameter: &Parameter,
+    out: &mut Vec<Finding>,
+) -> Result<(), NoMemory>
     ensures { OnOk result (out.new.items ≡ out.old.items ++ flat_map (declaration_rules tops.now) (parameter_sites parameter.now)) }
 {
     match &parameter.kind {
@@ -98,7 +108,11 @@ fn at_parameter(tops: &TopNames, parameter: &Parameter, out: &mut Vec<Finding>) 
     }
 }
 
-fn at_parameters(tops: &TopNames, parameters: &[Parameter], out: &mut Vec<Finding>) -> Result<(), NoMemory>
+fn at_parameters(
+    tops: &TopNames,
+    parameters: &[Parameter],
+    out: &mut Vec<Finding>,
+) -> Result<(), NoMemory>
     ensures { OnOk result (out.new.items ≡ out.old.items ++ flat_map (declaration_rules tops.now) (flat_map parameter_sites parameters.now)) }
 {
     for p in parameters {
@@ -122,7 +136,11 @@ fn at_function(
     at_optional(tops, &f.result, out)
 }
 
-fn at_getter(tops: &TopNames, getter: &Option<Getter>, out: &mut Vec<Finding>) -> Result<(), NoMemory>
+fn at_getter(
+    tops: &TopNames,
+    getter: &Option<Getter>,
+    out: &mut Vec<Finding>,
+) -> Result<(), NoMemory>
     ensures { OnOk result (out.new.items ≡ out.old.items ++ flat_map (declaration_rules tops.now) (getter_sites getter.now)) }
 {
     match getter {
@@ -278,7 +296,9 @@ fn has_no_parameters(parameters: &[Parameter]) -> bool
 fn is_main_function(tops: &TopNames, f: &FunctionDecl) -> bool
     ensures { result ≡ is_main tops.now f.now }
 {
-    f.name.name == tops.main() && has_no_parameters(f.parameters.as_slice()) && returns_unit(tops, f)
+    f.name.name == tops.main()
+        && has_no_parameters(f.parameters.as_slice())
+        && returns_unit(tops, f)
 }
 
 fn has_main(tops: &TopNames, functions: &[FunctionDecl]) -> bool
@@ -293,7 +313,11 @@ fn has_main(tops: &TopNames, functions: &[FunctionDecl]) -> bool
 }
 
 #[tactic(auto, unfolding(kt_model::specs::DeclarationRules::declaration_rules))]
-fn at_file_functions(tops: &TopNames, functions: &[FunctionDecl], out: &mut Vec<Finding>) -> Result<(), NoMemory>
+fn at_file_functions(
+    tops: &TopNames,
+    functions: &[FunctionDecl],
+    out: &mut Vec<Finding>,
+) -> Result<(), NoMemory>
     ensures { OnOk result (out.new.items ≡ out.old.items ++ declaration_rules tops.now (OfFunctions functions.now)) }
 {
     let start = Span { start: 0, end: 0 };
@@ -302,7 +326,12 @@ fn at_file_functions(tops: &TopNames, functions: &[FunctionDecl], out: &mut Vec<
 
 /// Tries the rules on declarations at each site of the file.
 #[tactic(auto, unfolding(kt_model::specs::Sites::file_sites))]
-pub(crate) fn at_file(alloc: Global, tops: &TopNames, file: &File, out: &mut Vec<Finding>) -> Result<(), NoMemory>
+pub(crate) fn at_file(
+    alloc: Global,
+    tops: &TopNames,
+    file: &File,
+    out: &mut Vec<Finding>,
+) -> Result<(), NoMemory>
     ensures { OnOk result (out.new.items ≡ out.old.items ++ flat_map (declaration_rules tops.now) (file_sites file.now)) }
 {
     let words = words_of_top(alloc, file)?;

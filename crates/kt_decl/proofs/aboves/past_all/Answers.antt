@@ -1,4 +1,4 @@
-use Rattle.std.proofs.Common.{◌≡◌, ◌≤◌, ◌<◌, ◌+◌, ℕ, get_or, max, arith}
+use Rattle.std.proofs.Common.{◌≡◌, ◌<◌, ◌+◌, ℕ, get_or, max, arith}
 use Rattle.std.proofs.lemmas.List.{get_or_default}
 use borrow.Author.Count.{below_more}
 use Rattle.kt_decl.proofs.aboves.past_all.Goals as goal
@@ -17,7 +17,7 @@ loop-n-preserved c =
 
 pub returns : goal.returns
 returns c = λ k d b. (
-  let i = c.loop-n.invariant.all k (omega arith) in
-  let e = get_or_default c.args.counts.now k d 0 b in
-  omega (arith, i, e)
-)
+    let i = c.loop-n.invariant.all k (omega arith) in
+    let e = get_or_default c.args.counts.now k d 0 b in
+    omega (arith, i, e)
+    )
