@@ -1,14 +1,14 @@
 -- Lists of the classes above, each class once.
-use Rattle.std.proofs.Common.{◌≡◌, ◌<◌, ◌≤◌, ◌==◌, ◌||◌, ◌⊎◌, ◌↔◌, ◌+◌, All, ℕ, suc, zero, Bool, true, false, cond, List, [], ◌∷◌, ◌++◌, Option, Some, None, Contains, length, get_or, inl, inr, refl, sym, ap, subst, ◌∙◌, arith, slice_get, slice_set, unwrap_or}
+use Rattle.std.proofs.Common.{◌≡◌, ◌<◌, ◌≤◌, ◌==◌, ◌||◌, ◌+◌, All, ℕ, suc, zero, Bool, true, false, cond, List, [], ◌∷◌, ◌++◌, Some, Contains, length, get_or, inl, inr, refl, sym, ap, subst, ◌∙◌, arith, slice_get, slice_set, unwrap_or}
 use Rattle.std.specs.List.{list_any, flat_map}
-use Rattle.std.proofs.lemmas.Bool.{false≢true, cases_lt}
+use Rattle.std.proofs.lemmas.Bool.{cases_lt}
 use Rattle.std.proofs.lemmas.Bool.Decides.{eqb_tells}
 use Rattle.std.proofs.lemmas.List.Elements.{Contains-get_or}
-use Rattle.kt_model.specs.Classes.{Classes, any, supers_of, supers, listed, each_once, Climbs, Sub, IsRanked, here, up}
+use Rattle.kt_model.specs.Classes.{Classes, any, supers_of, supers, listed, each_once, Climbs, IsRanked, here, up}
 use Rattle.kt_model.proofs.ListLemmas.{Has, contains_has, has_contains, contains_tested, has_unflat, has_first}
 use Rattle.kt_model.proofs.ClassLemmas.{sub_of_supers}
 use Rattle.kt_model.proofs.SupersLemmas.{agree, supers_again}
-use Rattle.kt_decl.specs.Marks.{IsMarked, MarksMembers, HasKnownSupers, FallsAlong, IsFilled, IsFilledTo, add_once}
+use Rattle.kt_decl.specs.Marks.{MarksMembers, HasKnownSupers, FallsAlong, IsFilled, IsFilledTo, add_once}
 
 or_swap : (a b c : Bool) → ((a || b) || c) ≡ (b || (a || c))
 or_swap true true c = refl

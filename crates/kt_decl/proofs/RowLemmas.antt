@@ -1,17 +1,16 @@
 -- Rows of a table, and what is written of their classes.
-use Rattle.std.proofs.Common.{◌≡◌, ◌<◌, ◌≤◌, ◌^◌, ◌==◌, ◌||◌, ℕ, suc, zero, Bool, true, false, cond, lit<, List, [], ◌∷◌, ◌++◌, map, length, Option, Some, None, inl, inr, refl, sym, ap, subst, ◌∙◌, arith, slice_get, unwrap_or, nat_lt}
+use Rattle.std.proofs.Common.{◌≡◌, ◌<◌, ◌≤◌, ◌^◌, ◌==◌, ◌||◌, ℕ, suc, zero, Bool, true, false, cond, lit<, List, [], ◌∷◌, ◌++◌, length, Option, Some, None, inl, inr, refl, sym, ap, ◌∙◌, slice_get, unwrap_or, nat_lt}
 use Rattle.std.specs.List.{list_any, flat_map}
-use Rattle.std.specs.Option.{option_map}
 use Rattle.std.proofs.lemmas.Option.{slice_get-map, slice_get_past}
 use Rattle.std.proofs.lemmas.List.{length-map}
 use Rattle.std.proofs.lemmas.Bool.{eqb-true, eq-eqb, ltb-false}
 use Rattle.std.proofs.lemmas.Bool.Decides.{eqb_tells}
 use Rattle.std.proofs.Math.Dec.{eqb-suc-zero, eqb-zero-suc}
 use Rattle.kt_model.specs.declared.class_table.ClassRow.{ClassRow}
-use Rattle.kt_model.specs.Classes.{Classes, Outlines, any, outline, outlines, written, supers_of, supers, listed, climbed, each_once}
+use Rattle.kt_model.specs.Classes.{Classes, any, outline, outlines, written, supers_of, listed, climbed, each_once}
 use Rattle.kt_model.specs.Subtypes.{is_under}
 use Rattle.kt_model.specs.Members.{members_of}
-use Rattle.kt_decl.specs.Marks.{HasAboves, IsRowed}
+use Rattle.kt_decl.specs.Marks.{IsRowed}
 
 zero_first : (n : ℕ) → (0 == n) ≡ (n == 0)
 zero_first zero = refl

@@ -1,8 +1,8 @@
 -- The rows of a file's class table.
-use Rattle.std.proofs.Common.{◌≡◌, ◌≢◌, ◌<◌, ◌≤◌, ◌+◌, ◌-◌, ◌^◌, ◌⊎◌, ◌==◌, ◌&&◌, ℕ, suc, zero, Bool, true, false, cond, not, nat_lt, List, [], ◌∷◌, ◌++◌, map, length, take, get_or, Option, Some, None, Contains, inl, inr, refl, sym, ap, subst, ◌∙◌, arith, slice_get, slice_set, unwrap_or, append_assoc}
-use Rattle.std.specs.List.{list_any, filter_map, cons_option, position}
+use Rattle.std.proofs.Common.{◌≡◌, ◌<◌, ◌≤◌, ◌+◌, ◌-◌, ◌^◌, ◌⊎◌, ◌==◌, ◌&&◌, ℕ, suc, zero, Bool, true, false, cond, not, nat_lt, List, [], ◌∷◌, ◌++◌, map, length, take, get_or, Option, Some, None, Contains, inl, inr, refl, sym, ap, subst, ◌∙◌, arith, slice_get, slice_set, unwrap_or, append_assoc}
+use Rattle.std.specs.List.{cons_option, position}
 use Rattle.std.proofs.lemmas.Bool.{cases_lt, ltb-true}
-use Rattle.std.proofs.lemmas.Option.{slice_get_past, slice_get-map, slice_get_within}
+use Rattle.std.proofs.lemmas.Option.{slice_get-map, slice_get_within}
 use Rattle.std.specs.Option.{option_map}
 use Rattle.std.proofs.lemmas.Bool.Decides.{eqb_tells}
 use Rattle.std.proofs.lemmas.List.{take_more, length-map, length_push, map_push}
@@ -13,11 +13,11 @@ use Rattle.kt_tree.specs.declared.ast.declaration.Supertype.{Supertype}
 use Rattle.kt_model.specs.declared.class_table.ClassRow.{ClassRow}
 use Rattle.kt_model.specs.declared.finding.Finding.{Finding}
 use Rattle.kt_model.specs.declared.finding.Rule.TheVariants.{SupertypeCycle}
-use Rattle.kt_model.specs.Classes.{Classes, Outline, Outlines, outline, outlines, written, supers, supers_of, Climbs, IsProperlyAbove, IsRanked, here, up}
+use Rattle.kt_model.specs.Classes.{Classes, Outlines, outline, outlines, written, supers, supers_of, Climbs, IsProperlyAbove, IsRanked, here, up}
 use Rattle.kt_model.specs.Settled.{IsSettled}
 use Rattle.kt_model.specs.Findings.{AreFindings}
 use Rattle.kt_model.specs.TopNames.{Tops, top_names, built_in_classes, class_named, is_function_name}
-use Rattle.kt_model.specs.DeclarationRules.{supers_named, classes_of, built_in_supers, IsOnCycle, IsOfClass, IsViolated, cycle}
+use Rattle.kt_model.specs.DeclarationRules.{supers_named, classes_of, built_in_supers, IsViolated, cycle}
 use Rattle.kt_model.specs.Outlines.{built_in_outline, built_in_numbers, class_outline, outlines_from, outlines_of}
 use Rattle.kt_model.specs.Members.{settled_of}
 use Rattle.kt_model.proofs.ListLemmas as Lists

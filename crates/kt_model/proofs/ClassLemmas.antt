@@ -1,7 +1,6 @@
 -- `supers` has exactly what a class is under.
-use Rattle.std.proofs.Common.{◌≡◌, ◌⊎◌, ◌<◌, ◌≤◌, ◌==◌, ◌↔◌, ℕ, suc, zero, Bool, true, false, cond, List, [], ◌∷◌, ◌++◌, length, Contains, inl, inr, refl, sym, ap, subst, ◌∙◌, arith}
-use Rattle.std.specs.List.{flat_map, list_any}
-use Rattle.std.proofs.lemmas.Bool.Decides.{eqb_tells}
+use Rattle.std.proofs.Common.{◌≡◌, ◌⊎◌, ◌≤◌, ◌==◌, ℕ, suc, zero, Bool, true, false, cond, List, [], ◌∷◌, length, Contains, inl, inr, refl, sym, subst, arith}
+use Rattle.std.specs.List.{list_any}
 use Rattle.kt_model.specs.Classes.{Classes, any, supers_of, Climbs, Sub, each_once, listed, climbed, supers, IsRanked, here, up}
 use Rattle.kt_model.proofs.ListLemmas.{Has, contains_has, has_contains, has_left, has_right, has_either, has_flat, has_unflat, has_one, has_of_any}
 

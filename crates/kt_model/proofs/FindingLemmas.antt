@@ -1,14 +1,11 @@
 -- The order of findings is total, and two findings that tie are one.
-use Rattle.std.proofs.Common.{◌≡◌, ◌==◌, Bool, true, rules, ap, sym, refl, ◌∙◌}
+use Rattle.std.proofs.Common.{◌≡◌, true, rules}
 use Rattle.std.specs.Cmp.{IsTotalOrder, IsEquivalence, first_so, second_so}
 use Rattle.std.specs.Cmp.Rules.{comparing}
-use Rattle.std.specs.Cmp.Lexicographic.{pointwise, bytes_decides}
+use Rattle.std.specs.Cmp.Lexicographic.{bytes_decides}
 use Rattle.std.specs.Ordering.{eq_by_cmp}
 use Rattle.std.proofs.lemmas.Bool.{eqb-true}
-use Rattle.kt_tree.specs.declared.token.Span.{Span}
-use Rattle.kt_model.specs.Codes.{code_of}
 use Rattle.kt_model.specs.Order.{by_place, same_finding}
-use Rattle.kt_model.specs.declared.finding.Rule.{Rule}
 use Rattle.kt_model.specs.declared.finding.Finding.{Finding}
 use Rattle.kt_model.proofs.CodeLemmas.{code_of-injective}
 

@@ -1,16 +1,15 @@
 -- A class has nothing under a name that neither it nor a class above it declares.
-use Rattle.std.proofs.Common.{◌≡◌, ◌⊎◌, ◌<◌, ◌==◌, ◌||◌, ℕ, suc, zero, Bool, true, false, cond, not, List, [], ◌∷◌, ◌++◌, map, length, get_or, Option, Some, None, inl, inr, refl, sym, ap, subst, ◌∙◌, arith, find, option_and_then, filter}
-use Rattle.std.specs.List.{list_any, flat_map, position, filter_map, cons_option}
+use Rattle.std.proofs.Common.{◌≡◌, ◌==◌, ◌||◌, ℕ, Bool, true, false, cond, List, [], ◌∷◌, map, Option, Some, None, inl, inr, refl, sym, ap, ◌∙◌, find, option_and_then}
+use Rattle.std.specs.List.{list_any, position, filter_map, cons_option}
 use Rattle.std.proofs.lemmas.Bool.{eqb-true, false≢true}
 use Rattle.std.proofs.lemmas.List.Quantifiers.{position-Some}
 use Rattle.std.proofs.lemmas.List.Folds.{list_any_at}
 use Rattle.kt_model.specs.declared.class_table.Member.{Member}
 use Rattle.kt_model.specs.declared.class_table.MemberRow.{MemberRow}
-use Rattle.kt_model.specs.declared.class_table.Settled.{Settled}
-use Rattle.kt_model.specs.Classes.{Outlines, any, written, supers, climbed, listed, each_once}
+use Rattle.kt_model.specs.Classes.{Outlines, written, supers, each_once}
 use Rattle.kt_model.specs.Members.{members_of, place_of, own, candidates, candidate_in, is_hidden, member_of, implementation_of, names_above, settled_at, settled_of}
-use Rattle.kt_model.proofs.ListLemmas.{Has, has_of_any, any_of_has, has_flat, has_unfiltered, contains_has, has_contains}
-use Rattle.kt_model.proofs.ClassLemmas.{has_once, has_of_once, has_listed, climbed_first}
+use Rattle.kt_model.proofs.ListLemmas.{Has, any_of_has, has_flat}
+use Rattle.kt_model.proofs.ClassLemmas.{has_once, has_listed, climbed_first}
 
 -- a class is among its `supers`
 pub has_itself : (os : Outlines) (c : ℕ) → Has (supers (written os) c) c

@@ -2,7 +2,7 @@
 --
 -- From the Kotlin specification, "Control- and data-flow analysis"; which nodes there are and where they stand is this project's own. A node is a
 -- tree's number, a tag and a copy, and carries its effects; an edge is a pair of nodes. A list of edges by recursion; nothing is looked up.
-use Rattle.std.specs.Prelude.{ℕ, Bool, true, false, List, [], ◌∷◌, ◌++◌}
+use Rattle.std.specs.Prelude.{ℕ, Bool, false, List, [], ◌∷◌, ◌++◌}
 use Rattle.kt_tree.specs.declared.token.Span.{Span}
 use Rattle.kt_model.specs.Trees.{Tree, Int', Name', Declare', Local', Assign', Println', number}
 

@@ -2,7 +2,7 @@
 --
 -- From the Kotlin specification, "Inheritance" and "Overriding". What happens where several candidates meet is this project's own reading of
 -- real Kotlin's behaviour. The code marks what is hidden, and keeps what each class has.
-use Rattle.std.specs.Prelude.{◌==◌, ◌&&◌, ◌||◌, ℕ, Bool, true, false, not, List, [], ◌∷◌, ◌++◌, map, Option, Some, None, length, find, position, slice_get, count_by, nat_le, unwrap_or, option_and_then, if◌then◌else◌, is_some}
+use Rattle.std.specs.Prelude.{◌==◌, ◌&&◌, ◌||◌, ℕ, Bool, true, false, not, List, [], ◌∷◌, map, Option, Some, None, length, find, position, slice_get, count_by, nat_le, unwrap_or, option_and_then, if◌then◌else◌, is_some}
 use Rattle.std.specs.List.{list_any, list_all, filter_map, flat_map, zip}
 use Rattle.std.specs.Option.{option_map}
 use Rattle.kt_model.specs.declared.class_table.ClassKind.{ClassKind}

@@ -2,7 +2,7 @@
 --
 -- From the Kotlin specification, "Scopes and identifiers": a local is visible behind its declaration, and a block declares no name twice. A search over
 -- the statements before; the code keeps marks.
-use Rattle.std.specs.Prelude.{◌≡◌, ℕ, Bool, true, false, ◌==◌, List, [], ◌∷◌, ◌++◌, Option, Some, None, Contains}
+use Rattle.std.specs.Prelude.{◌≡◌, ℕ, Bool, true, false, ◌==◌, List, [], ◌∷◌, ◌++◌, Some, None, Contains}
 use Rattle.std.specs.List.{list_any}
 use Rattle.kt_tree.specs.declared.tree.Ident.{Ident}
 use Rattle.kt_tree.specs.declared.tree.ExprKind.{ExprKind}

@@ -1,5 +1,5 @@
 -- The order of findings in a report: by start, then by end, then by the code's bytes. It is this project's own.
-use Rattle.std.specs.Prelude.{ℕ, Bool, ◌==◌}
+use Rattle.std.specs.Prelude.{Bool, ◌==◌}
 use Rattle.std.specs.declared.cmp.Ordering.{Ordering}
 use Rattle.std.specs.Ordering.{nat_cmp, on, then_cmp, eq_of_both}
 use Rattle.std.specs.Cmp.Lexicographic.{slice_cmp, pointwise}

@@ -14,7 +14,6 @@ use Rattle.kt_tree.specs.declared.ast.declaration.ClassDecl.{ClassDecl}
 use Rattle.kt_tree.specs.declared.ast.declaration.ClassParameter.{ClassParameter}
 use Rattle.kt_tree.specs.declared.ast.declaration.FunctionDecl.{FunctionDecl}
 use Rattle.kt_tree.specs.declared.ast.declaration.PropertyDecl.{PropertyDecl}
-use Rattle.kt_tree.specs.declared.ast.declaration.Parameter.{Parameter}
 use Rattle.kt_tree.specs.declared.ast.declaration.ParameterType.{ParameterType}
 use Rattle.kt_tree.specs.declared.ast.declaration.ParameterType.TheVariants.{Value, Function as FunctionType}
 use Rattle.kt_tree.specs.declared.ast.declaration.Member.{Member}

@@ -4,7 +4,7 @@
 -- the flow of its bodies.
 use Rattle.std.specs.Prelude.{◌≡◌, ◌≢◌, ℕ, ◌<◌, List, length}
 use Rattle.std.specs.declared.cmp.Ordering.TheVariants as ordering
-use Rattle.kt_tree.specs.StraightGrammar.{Reading, Reads, Misfit, nowhere, reading_of}
+use Rattle.kt_tree.specs.StraightGrammar.{Reads, Misfit, nowhere, reading_of}
 use Rattle.kt_tree.specs.declared.token.Span.{Span}
 use Rattle.kt_tree.specs.declared.word.Word.{Word}
 use Rattle.kt_tree.specs.declared.tree.Stmt.{Stmt}

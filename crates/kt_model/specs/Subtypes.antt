@@ -2,7 +2,7 @@
 --
 -- From the Kotlin specification, "Type system", "Subtyping" and "Least upper bound", for types without parameters: `Nothing` is under every type, and
 -- a type with `?` is under none without. Of several least upper bounds this project takes the first in the order of `supers`.
-use Rattle.std.specs.Prelude.{◌≡◌, ◌<◌, ◌||◌, ◌==◌, ℕ, Bool, true, List, length, Option, Some, None, find, unwrap_or, if◌then◌else◌}
+use Rattle.std.specs.Prelude.{◌≡◌, ◌<◌, ◌||◌, ◌==◌, ℕ, Bool, true, length, Option, Some, None, find, unwrap_or, if◌then◌else◌}
 use Rattle.std.specs.List.{list_any}
 use Rattle.kt_model.specs.Classes.{Classes, any, Sub, supers}
 use Rattle.kt_model.specs.declared.kinds.KtType.{KtType}

@@ -5,7 +5,6 @@
 -- looks words up in lists of the file's names.
 use Rattle.std.specs.Prelude.{◌==◌, ◌&&◌, ◌+◌, ℕ, Bool, not, List, map, nat_lt, codes, position, Option, Some, None, if◌then◌else◌, nat_eq}
 use Rattle.std.specs.List.{list_any}
-use Rattle.std.specs.Option.{option_map}
 use Rattle.kt_tree.specs.Names.{place_of}
 use Rattle.kt_tree.specs.declared.ast.declaration.File.{File}
 use Rattle.kt_model.specs.declared.kinds.Head.{Head}

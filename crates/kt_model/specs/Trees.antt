@@ -2,9 +2,8 @@
 --
 -- A local is known by its name's number: in a body that declares no name twice each name is one local. The trees of a program are mapped to
 -- these once.
-use Rattle.std.specs.Prelude.{ℕ, Bool, true, false, List, [], ◌∷◌, map, Option, Some, None, nat_eq, if◌then◌else◌, ℤ}
+use Rattle.std.specs.Prelude.{ℕ, Bool, true, false, List, [], ◌∷◌, map, Some, None, nat_eq, if◌then◌else◌, ℤ}
 use Rattle.kt_tree.specs.declared.token.Span.{Span}
-use Rattle.kt_tree.specs.declared.tree.Ident.{Ident}
 use Rattle.kt_tree.specs.declared.tree.Expr.{Expr}
 use Rattle.kt_tree.specs.declared.tree.ExprKind.{ExprKind}
 use Rattle.kt_tree.specs.declared.tree.ExprKind.TheVariants as expr

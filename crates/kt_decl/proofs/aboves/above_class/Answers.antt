@@ -1,4 +1,4 @@
-use Rattle.std.proofs.Common.{◌≡◌, IfOk, subst, sym, ◌∙◌, arith, List, ℕ, length}
+use Rattle.std.proofs.Common.{◌≡◌, IfOk, subst, ◌∙◌, List, ℕ}
 use Rattle.kt_decl.proofs.SearchLemmas.{known_supers}
 use Rattle.kt_decl.proofs.AboveLemmas.{climb_known, climb_lists}
 use Rattle.kt_decl.proofs.aboves.above_class.Goals as goal

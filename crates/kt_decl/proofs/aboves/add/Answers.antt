@@ -1,4 +1,4 @@
-use Rattle.std.proofs.Common.{◌≡◌, ◌∷◌, ◌++◌, [], ap, cond, arith, true, false, slice_get, Some, sym, ◌∙◌}
+use Rattle.std.proofs.Common.{◌∷◌, ◌++◌, [], ap, cond, arith, true, false, sym, ◌∙◌}
 use Rattle.std.proofs.lemmas.Option.{slice_get_read}
 use Rattle.kt_model.specs.Classes.{any}
 use Rattle.kt_decl.proofs.MarkLemmas.{marks_more}

@@ -1,4 +1,4 @@
-use Rattle.std.proofs.Common.{◌≡◌, ◌∷◌, ◌++◌, [], ap, arith, refl, ◌∙◌, take, sym, get_or}
+use Rattle.std.proofs.Common.{◌∷◌, ◌++◌, [], ap, arith, ◌∙◌, take, sym, get_or}
 use Rattle.std.proofs.lemmas.List.{take_more}
 use Rattle.kt_decl.proofs.ListSteps.{take_end}
 use Rattle.kt_model.specs.Classes.{any, each_once, listed}

@@ -1,7 +1,6 @@
-use Rattle.std.proofs.Common.{◌≡◌, ◌<◌, arith, subst, sym, ap, ◌∙◌, length, false, true, vec_len, List, ℕ}
+use Rattle.std.proofs.Common.{◌≡◌, ◌<◌, arith, ap, ◌∙◌, length}
 use Rattle.std.proofs.Math.ListN.{length-set}
 use Rattle.kt_model.specs.Classes.{supers}
-use Rattle.kt_decl.specs.Marks.{IsFilled, IsFilledTo}
 use Rattle.kt_decl.proofs.AboveLemmas.{supers_filled, still_filled, filled_more, filled_past, filled_all}
 use Rattle.kt_decl.proofs.aboves.fill_count.Goals as goal
 use Rattle.kt_decl.proofs.aboves.fill_count.Goals.{then-counts-i+in_ok-fill_class, else-counts-i}

@@ -1,6 +1,4 @@
-use Rattle.std.proofs.Common.{IsTrue, ◌==◌, ◌↔◌, Contains}
-use Rattle.std.specs.List.{list_any}
-use Rattle.kt_model.specs.Classes.{Sub, outlines, supers, written}
+use Rattle.kt_model.specs.Classes.{outlines, supers, written}
 use Rattle.kt_model.proofs.ListLemmas.{contains_tested}
 use Rattle.kt_decl.proofs.inheritance.is_sub.Goals as goal
 

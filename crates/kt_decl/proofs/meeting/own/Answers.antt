@@ -1,4 +1,4 @@
-use Rattle.std.proofs.Common.{◌≡◌, ◌<◌, ◌^◌, arith, length, ap}
+use Rattle.std.proofs.Common.{arith, length, ap}
 use Rattle.kt_decl.proofs.RowLemmas.{members_few}
 use Rattle.kt_decl.proofs.meeting.own.Goals as goal
 

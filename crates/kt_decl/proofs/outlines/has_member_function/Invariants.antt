@@ -1,6 +1,5 @@
-use Rattle.std.proofs.Common.{◌≡◌, ◌++◌, map, take, false, find, None, ◌==◌}
-use Rattle.std.specs.List.{list_any, filter_map}
-use Rattle.std.specs.Option.{option_map}
+use Rattle.std.proofs.Common.{◌≡◌, take, false}
+use Rattle.std.specs.List.{list_any}
 use Rattle.kt_model.specs.Outlines as spec
 use Rattle.kt_decl.proofs.outlines.has_member_function.Given as goal
 

@@ -1,7 +1,4 @@
-use Rattle.std.proofs.Common.{◌≡◌, ◌++◌, map, take, drop, false, find, None, ◌==◌}
-use Rattle.std.specs.List.{list_any, filter_map}
-use Rattle.std.specs.Option.{option_map}
-use Rattle.kt_model.specs.Outlines as spec
+use Rattle.std.proofs.Common.{◌≡◌, drop, find, ◌==◌}
 use Rattle.kt_decl.proofs.outlines.parameter_named.Given as goal
 
 abbrev pub invariant-loop-p : goal.invariant-loop-p

@@ -1,6 +1,4 @@
-use Rattle.std.proofs.Common.{◌≡◌, ◌++◌, map, take, false, find, None, ◌==◌}
-use Rattle.std.specs.List.{list_any, filter_map}
-use Rattle.std.specs.Option.{option_map}
+use Rattle.std.proofs.Common.{◌≡◌, map, take}
 use Rattle.kt_model.specs.Outlines as spec
 use Rattle.kt_decl.proofs.outlines.parameter_types.Given as goal
 

@@ -1,6 +1,5 @@
-use Rattle.std.proofs.Common.{◌≡◌, ◌+◌, arith, ap, refl, sym, ◌∙◌, length, ◌<◌}
+use Rattle.std.proofs.Common.{arith, ap, refl, length, ◌<◌}
 use Rattle.std.proofs.lemmas.Option.{slice_get_read}
-use Rattle.kt_model.specs.TopNames.{built_in_classes}
 use Rattle.kt_decl.proofs.ClassSteps.{class_step, all_classes, read_cycle}
 use Rattle.kt_decl.proofs.supertypes.add_class_findings.Goals as goal
 

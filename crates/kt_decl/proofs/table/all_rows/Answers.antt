@@ -1,7 +1,6 @@
-use Rattle.std.proofs.Common.{◌≡◌, ◌<◌, ◌+◌, ◌++◌, ◌∷◌, [], ◌∙◌, ap, sym, arith, length, drop, subst, append-nil}
-use Rattle.kt_model.specs.Classes.{outlines, supers_of, supers}
+use Rattle.std.proofs.Common.{◌≡◌, ◌<◌, ◌+◌, ◌++◌, ◌∙◌, ap, sym, arith, length, drop, subst, append-nil}
+use Rattle.kt_model.specs.Classes.{outlines}
 use Rattle.kt_model.specs.TopNames.{built_in_classes}
-use Rattle.kt_model.specs.DeclarationRules.{classes_of}
 use Rattle.kt_model.specs.Outlines.{outlines_from, outlines_of, class_outline}
 use Rattle.kt_decl.proofs.ListSteps.{drop_more, drop_end}
 use Rattle.kt_decl.proofs.TableLemmas.{rows_more, outlines_more, rowed_of}

@@ -1,5 +1,4 @@
-use Rattle.std.proofs.Common.{◌≡◌, ◌∙◌, arith, length}
-use Rattle.kt_model.specs.Classes.{supers_of}
+use Rattle.std.proofs.Common.{◌∙◌, arith}
 use Rattle.kt_decl.proofs.TableLemmas.{rows_more, built_in_more}
 use Rattle.kt_decl.proofs.table.built_in_rows.Goals as goal
 

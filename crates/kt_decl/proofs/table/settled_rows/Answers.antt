@@ -1,4 +1,4 @@
-use Rattle.std.proofs.Common.{◌≡◌, ◌<◌, ◌+◌, ◌≤◌, ◌∙◌, arith, ap, sym, subst, length, vec_len}
+use Rattle.std.proofs.Common.{◌≡◌, ◌∙◌, arith, ap, subst, length, vec_len}
 use Rattle.kt_decl.specs.Marks.{AreSettled}
 use Rattle.kt_decl.proofs.TableLemmas.{settled_table}
 use Rattle.kt_decl.proofs.ClassSteps.{length_classes_of}

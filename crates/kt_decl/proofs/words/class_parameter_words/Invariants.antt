@@ -1,6 +1,4 @@
-use Rattle.std.proofs.Common.{◌≡◌, ◌++◌, map, take}
-use Rattle.std.specs.List.{filter_map}
-use Rattle.kt_model.specs.Sites.{property_word, member_word}
+use Rattle.std.proofs.Common.{◌≡◌, map, take}
 use Rattle.kt_decl.proofs.words.class_parameter_words.Given as goal
 
 abbrev pub invariant-loop-p : goal.invariant-loop-p

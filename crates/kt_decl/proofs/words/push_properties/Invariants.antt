@@ -1,6 +1,6 @@
-use Rattle.std.proofs.Common.{◌≡◌, ◌++◌, map, take}
+use Rattle.std.proofs.Common.{◌≡◌, ◌++◌, take}
 use Rattle.std.specs.List.{filter_map}
-use Rattle.kt_model.specs.Sites.{property_word, member_word}
+use Rattle.kt_model.specs.Sites.{property_word}
 use Rattle.kt_decl.proofs.words.push_properties.Given as goal
 
 abbrev pub invariant-loop-p : goal.invariant-loop-p

@@ -1,4 +1,4 @@
-use Rattle.std.proofs.Common.{◌≡◌, ◌<◌, ◌≤◌, ℕ, List, [], ◌∷◌, Some, false, true, slice_get, get_or, length, arith, refl, sym, ap, ◌∙◌, subst, suc, zero}
+use Rattle.std.proofs.Common.{◌≡◌, ◌<◌, ℕ, List, [], ◌∷◌, Some, false, true, slice_get, get_or, length, arith, sym, ◌∙◌, suc, zero}
 use Rattle.std.specs.Str.{bytes_eq}
 use Rattle.kt_tree.specs.Names.{place_of}
 use Rattle.std.proofs.lemmas.List.Sums.{position_or_len_is}

@@ -1,7 +1,6 @@
-use Rattle.std.proofs.Common.{◌≡◌, Some, slice_get, refl, ap, sym, ◌∙◌, find, ◌==◌, option_and_then, length, arith}
+use Rattle.std.proofs.Common.{◌≡◌, Some, slice_get, refl}
 use Rattle.std.proofs.lemmas.Option.{slice_get_read}
 use Rattle.kt_model.specs.Classes.{outlines}
-use Rattle.kt_model.specs.Members.{settled_of}
 use Rattle.kt_model.proofs.MemberLemmas.{found_settled}
 use Rattle.kt_model.proofs.class_table.ClassTable.settled.Goals as goal
 use Rattle.kt_model.proofs.class_table.ClassTable.settled.Goals.{After-named}
