@@ -16,3 +16,4 @@ pub mod NameUses
 pub mod BodyTrees
 pub mod ControlFlow
 pub mod Bodies
+pub mod NodeKeys
