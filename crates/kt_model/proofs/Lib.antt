@@ -6,3 +6,4 @@ pub mod SupersLemmas
 pub mod MemberLemmas
 pub mod UseLemmas
 pub mod BodyFolds
+pub mod NodeKeyLaws

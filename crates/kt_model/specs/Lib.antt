@@ -20,3 +20,4 @@ pub mod NameUses
 pub mod BodyTrees
 pub mod ControlFlow
 pub mod Bodies
+pub mod NodeKeys
