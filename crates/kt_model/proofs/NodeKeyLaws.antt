@@ -18,26 +18,29 @@ differ a b x h = elim (eqb_tells a b) as (λ t. cond (a == b) x 0 ≡ 0) [ inl p
 -- the two halves of a copy are two
 halves : (c k : ℕ) → only_if c (2 * k) 1 + only_if c (2 * k + 1) 1 ≤ 1
 halves c k = elim (eqb_tells c (2 * k)) [
-    inl p ↦ (let e : c ≡ 2 * k = p.1 in let z = differ c (2 * k + 1) 1 (λ f. omega arith) in let y = at_most c (2 * k) 1 in omega arith)
-  | inr p ↦ (let z = differ c (2 * k) 1 p.1 in let y = at_most c (2 * k + 1) 1 in omega arith) ]
+  | inl p ↦ (let e : c ≡ 2 * k = p.1 in let z = differ c (2 * k + 1) 1 (λ f. omega arith) in let y = at_most c (2 * k) 1 in omega arith)
+  | inr p ↦ (let z = differ c (2 * k) 1 p.1 in let y = at_most c (2 * k + 1) 1 in omega arith)
+]
 
 -- the nodes of a tree itself, by their tags and copies
 own : (g c k : ℕ) → only_if g 4 (only_if c k 1) + (only_if g 17 (only_if c k 1) + (only_if g 5 (only_if c (2 * k) 1) + only_if g 5 (only_if c (2 * k + 1) 1))) ≤ 1
 own g c k = elim (eqb_tells g 4) [
-    inl p ↦ (let e : g ≡ 4 = p.1 in
+  | inl p ↦ (let e : g ≡ 4 = p.1 in
       let z = differ g 17 (only_if c k 1) (λ f. omega arith) in
       let x = differ g 5 (only_if c (2 * k) 1) (λ f. omega arith) in
       let y = differ g 5 (only_if c (2 * k + 1) 1) (λ f. omega arith) in
       let v = at_most g 4 (only_if c k 1) in let w = at_most c k 1 in omega arith)
   | inr p ↦ (let u = differ g 4 (only_if c k 1) p.1 in elim (eqb_tells g 17) [
-      inl q ↦ (let e : g ≡ 17 = q.1 in
+    | inl q ↦ (let e : g ≡ 17 = q.1 in
         let x = differ g 5 (only_if c (2 * k) 1) (λ f. omega arith) in
         let y = differ g 5 (only_if c (2 * k + 1) 1) (λ f. omega arith) in
         let v = at_most g 17 (only_if c k 1) in let w = at_most c k 1 in omega arith)
     | inr q ↦ (let z = differ g 17 (only_if c k 1) q.1 in
         let x = at_most g 5 (only_if c (2 * k) 1) in
         let y = at_most g 5 (only_if c (2 * k + 1) 1) in
-        let h = halves c k in omega arith) ]) ]
+        let h = halves c k in omega arith)
+  ])
+]
 
 -- what holds of a tree's own nodes holds once for its number
 whole : (m n a b d e : ℕ) → a + (b + (d + e)) ≤ 1 → only_if m n a + (only_if m n b + (only_if m n d + only_if m n e)) ≤ only_if m n 1
@@ -78,6 +81,7 @@ append m g c xs ys x y h i = let e = occurs-append m g c xs ys in omega arith
 
 mutual
   unfolding nodes
+
   -- of a tree no node occurs more often than its tree's number does among the trees
   pub occurs-nodes : (m g c : ℕ) (b : Bool) (k : ℕ) (t : Tree) → occurs m g c (nodes b k t) ≤ times m t
   occurs-nodes m g c b k (Operation' n o ps) = around m g c b k (Operation' n o ps) (all_nodes k ps) (all_times m ps) (occurs-all_nodes m g c k ps)
@@ -108,17 +112,20 @@ here a b x e = ap (λ t. cond t x 0) (eq-eqb a b e)
 -- the three nodes of a body itself
 three_own : (m g c : ℕ) → only_if m 0 (only_if g 0 (only_if c 0 1)) + (only_if m 0 (only_if g 1 (only_if c 0 1)) + only_if m 0 (only_if g 18 (only_if c 0 1))) ≤ only_if m 0 1
 three_own m g c = elim (eqb_tells m 0) [
-    inr p ↦ (let a = differ m 0 (only_if g 0 (only_if c 0 1)) p.1 in let b = differ m 0 (only_if g 1 (only_if c 0 1)) p.1 in let d = differ m 0 (only_if g 18 (only_if c 0 1)) p.1 in omega arith)
+  | inr p ↦ (let a = differ m 0 (only_if g 0 (only_if c 0 1)) p.1 in let b = differ m 0 (only_if g 1 (only_if c 0 1)) p.1 in let d = differ m 0 (only_if g 18 (only_if c 0 1)) p.1 in omega arith)
   | inl p ↦ (
       let one = here m 0 1 p.1 in
       let w = at_most c 0 1 in
       let a = at_most m 0 (only_if g 0 (only_if c 0 1)) in let b = at_most m 0 (only_if g 1 (only_if c 0 1)) in let d = at_most m 0 (only_if g 18 (only_if c 0 1)) in
       let x = at_most g 0 (only_if c 0 1) in let y = at_most g 1 (only_if c 0 1) in let z = at_most g 18 (only_if c 0 1) in
       elim (eqb_tells g 0) [
-        inl q ↦ (let e : g ≡ 0 = q.1 in let s = differ g 1 (only_if c 0 1) (λ f. omega arith) in let t = differ g 18 (only_if c 0 1) (λ f. omega arith) in omega arith)
-      | inr q ↦ (let s = differ g 0 (only_if c 0 1) q.1 in elim (eqb_tells g 1) [
-          inl r ↦ (let e : g ≡ 1 = r.1 in let t = differ g 18 (only_if c 0 1) (λ f. omega arith) in omega arith)
-        | inr r ↦ (let t = differ g 1 (only_if c 0 1) r.1 in omega arith) ]) ]) ]
+        | inl q ↦ (let e : g ≡ 0 = q.1 in let s = differ g 1 (only_if c 0 1) (λ f. omega arith) in let t = differ g 18 (only_if c 0 1) (λ f. omega arith) in omega arith)
+        | inr q ↦ (let s = differ g 0 (only_if c 0 1) q.1 in elim (eqb_tells g 1) [
+          | inl r ↦ (let e : g ≡ 1 = r.1 in let t = differ g 18 (only_if c 0 1) (λ f. omega arith) in omega arith)
+          | inr r ↦ (let t = differ g 1 (only_if c 0 1) r.1 in omega arith)
+        ])
+      ])
+]
 
 -- Where no number stands at two trees of a body, nor 0 at any, no two of its nodes have one tree, tag and copy.
 pub distinct_nodes : (ps : List ℕ) (ts : Trees) → ((m : ℕ) → only_if m 0 1 + all_times m ts ≤ 1) → (m g c : ℕ) → occurs m g c (body_nodes ps ts) ≤ 1
