@@ -28,7 +28,7 @@ use Rattle.kt_tree.specs.declared.ast.body.Branch.TheOpen.{Branch-F, ExprKind-F,
 use Rattle.kt_tree.specs.declared.ast.body.Branch.TheViews as v
 use Rattle.kt_tree.specs.declared.ast.body.Branch.TheFolds.{fold_out-Block, fold-roll-Expr, fold-roll-ExprKind, fold-roll-Stmt, fold-roll-Branch, fold-roll-StringPart}
 use Rattle.kt_model.specs.declared.uses.Named.{Named}
-use Rattle.kt_model.specs.BodyTrees.{Tree, Trees, Piece, Text', Inserted', Seen, SeenKind, Operation', Name', Paren', Not', And', Or', If', Return', Throw', Shut', Empty', First', Int', Bool', Null', Template', Sign', Sum', Arithmetic', Compare', Equal', listed, otherwise, texts_of, inserted_of, seen_trees, seen_optional, plain, operation, shut, name_tree, name_span, call_tree, local_tree, assign_tree, compound_of, kind_step, stmt_step, branch_step, piece_step, block_step, expr_step, nothing, seen, seen_kind, stmt_tree, block_trees, branch_trees, piece, expr_tree}
+use Rattle.kt_model.specs.BodyTrees.{Tree, Trees, Piece, Text', Inserted', Seen, SeenKind, Operation', Name', Paren', Not', And', Or', If', Return', Throw', Shut', Empty', First', Int', Bool', Null', Template', Sign', Sum', Arithmetic', Compare', Equal', listed, otherwise, texts_of, inserted_of, seen_trees, seen_optional, plain, operation, shut, whole, named_there, name_tree, name_span, call_tree, local_tree, assign_tree, compound_of, kind_step, stmt_step, branch_step, piece_step, block_step, expr_step, nothing, seen, seen_kind, stmt_tree, block_trees, branch_trees, piece, expr_tree}
 
 -- an expression, by its kind
 pub tree_of_kind : (uses : ℕ → Named) (x : Expr) (k : ExprKind) (f : SeenKind) → x.kind ≡ k → seen_kind uses k ≡ f → expr_tree uses x ≡ f.tree_at x.number x.span
@@ -68,12 +68,12 @@ unfolding seen seen_kind stmt_tree block_trees branch_trees piece
 kind_template uses ps = ap (seen_kind uses) (sym (v.rolls-Template ps)) ∙ fold-roll-ExprKind Trees (Unit {0}) SeenKind Tree Piece Trees (Unit {0}) Seen (Unit {0}) (Unit {0}) (Unit {0}) branch_step nothing (kind_step uses) (stmt_step uses) piece_step block_step nothing expr_step nothing nothing nothing (ExprKind-F.Template ps)
 
 -- parentheses
-pub kind_paren : (uses : ℕ → Named) (x : Expr) → seen_kind uses (e.Paren x) ≡ plain (λ n at. Paren' n (expr_tree uses x))
+pub kind_paren : (uses : ℕ → Named) (x : Expr) → seen_kind uses (e.Paren x) ≡ plain (λ n at. Paren' (whole n at) (expr_tree uses x))
 unfolding seen seen_kind stmt_tree block_trees branch_trees piece
 kind_paren uses x = ap (seen_kind uses) (sym (v.rolls-Paren x)) ∙ fold-roll-ExprKind Trees (Unit {0}) SeenKind Tree Piece Trees (Unit {0}) Seen (Unit {0}) (Unit {0}) (Unit {0}) branch_step nothing (kind_step uses) (stmt_step uses) piece_step block_step nothing expr_step nothing nothing nothing (ExprKind-F.Paren x)
 
 -- a call
-pub kind_call : (uses : ℕ → Named) (f : Ident) (xs : List Expr) → seen_kind uses (e.Call f xs None) ≡ plain (λ n at. call_tree (uses n) (seen_trees (map (seen uses) xs)) n)
+pub kind_call : (uses : ℕ → Named) (f : Ident) (xs : List Expr) → seen_kind uses (e.Call f xs None) ≡ plain (λ n at. call_tree (uses n) (seen_trees (map (seen uses) xs)) (named_there n at f.span))
 unfolding seen seen_kind stmt_tree block_trees branch_trees piece
 kind_call uses f xs = ap (seen_kind uses) (sym (v.rolls-Call f xs None)) ∙ fold-roll-ExprKind Trees (Unit {0}) SeenKind Tree Piece Trees (Unit {0}) Seen (Unit {0}) (Unit {0}) (Unit {0}) branch_step nothing (kind_step uses) (stmt_step uses) piece_step block_step nothing expr_step nothing nothing nothing (ExprKind-F.Call f xs None)
 
@@ -88,7 +88,7 @@ unfolding seen seen_kind stmt_tree block_trees branch_trees piece
 kind_sign uses o x = ap (seen_kind uses) (sym (v.rolls-Sign o x)) ∙ fold-roll-ExprKind Trees (Unit {0}) SeenKind Tree Piece Trees (Unit {0}) Seen (Unit {0}) (Unit {0}) (Unit {0}) branch_step nothing (kind_step uses) (stmt_step uses) piece_step block_step nothing expr_step nothing nothing nothing (ExprKind-F.Sign o x)
 
 -- `!`
-pub kind_not : (uses : ℕ → Named) (x : Expr) → seen_kind uses (e.Not x) ≡ plain (λ n at. Not' n (expr_tree uses x))
+pub kind_not : (uses : ℕ → Named) (x : Expr) → seen_kind uses (e.Not x) ≡ plain (λ n at. Not' (whole n at) (expr_tree uses x))
 unfolding seen seen_kind stmt_tree block_trees branch_trees piece
 kind_not uses x = ap (seen_kind uses) (sym (v.rolls-Not x)) ∙ fold-roll-ExprKind Trees (Unit {0}) SeenKind Tree Piece Trees (Unit {0}) Seen (Unit {0}) (Unit {0}) (Unit {0}) branch_step nothing (kind_step uses) (stmt_step uses) piece_step block_step nothing expr_step nothing nothing nothing (ExprKind-F.Not x)
 
@@ -113,32 +113,32 @@ unfolding seen seen_kind stmt_tree block_trees branch_trees piece
 kind_equal uses o x y = ap (seen_kind uses) (sym (v.rolls-Equal o x y)) ∙ fold-roll-ExprKind Trees (Unit {0}) SeenKind Tree Piece Trees (Unit {0}) Seen (Unit {0}) (Unit {0}) (Unit {0}) branch_step nothing (kind_step uses) (stmt_step uses) piece_step block_step nothing expr_step nothing nothing nothing (ExprKind-F.Equal o x y)
 
 -- `&&`
-pub kind_and : (uses : ℕ → Named) (x : Expr) (y : Expr) → seen_kind uses (e.And x y) ≡ plain (λ n at. And' n (expr_tree uses x) (expr_tree uses y))
+pub kind_and : (uses : ℕ → Named) (x : Expr) (y : Expr) → seen_kind uses (e.And x y) ≡ plain (λ n at. And' (whole n at) (expr_tree uses x) (expr_tree uses y))
 unfolding seen seen_kind stmt_tree block_trees branch_trees piece
 kind_and uses x y = ap (seen_kind uses) (sym (v.rolls-And x y)) ∙ fold-roll-ExprKind Trees (Unit {0}) SeenKind Tree Piece Trees (Unit {0}) Seen (Unit {0}) (Unit {0}) (Unit {0}) branch_step nothing (kind_step uses) (stmt_step uses) piece_step block_step nothing expr_step nothing nothing nothing (ExprKind-F.And x y)
 
 -- `||`
-pub kind_or : (uses : ℕ → Named) (x : Expr) (y : Expr) → seen_kind uses (e.Or x y) ≡ plain (λ n at. Or' n (expr_tree uses x) (expr_tree uses y))
+pub kind_or : (uses : ℕ → Named) (x : Expr) (y : Expr) → seen_kind uses (e.Or x y) ≡ plain (λ n at. Or' (whole n at) (expr_tree uses x) (expr_tree uses y))
 unfolding seen seen_kind stmt_tree block_trees branch_trees piece
 kind_or uses x y = ap (seen_kind uses) (sym (v.rolls-Or x y)) ∙ fold-roll-ExprKind Trees (Unit {0}) SeenKind Tree Piece Trees (Unit {0}) Seen (Unit {0}) (Unit {0}) (Unit {0}) branch_step nothing (kind_step uses) (stmt_step uses) piece_step block_step nothing expr_step nothing nothing nothing (ExprKind-F.Or x y)
 
 -- `if` with `else`
-pub kind_if : (uses : ℕ → Named) (c : Expr) (x : Branch) (y : Branch) → seen_kind uses (e.If c x (Some y)) ≡ plain (λ n at. If' n (expr_tree uses c) (branch_trees uses x) (branch_trees uses y))
+pub kind_if : (uses : ℕ → Named) (c : Expr) (x : Branch) (y : Branch) → seen_kind uses (e.If c x (Some y)) ≡ plain (λ n at. If' (whole n at) (expr_tree uses c) (branch_trees uses x) (branch_trees uses y))
 unfolding seen seen_kind stmt_tree block_trees branch_trees piece
 kind_if uses c x y = ap (seen_kind uses) (sym (v.rolls-If c x (Some y))) ∙ fold-roll-ExprKind Trees (Unit {0}) SeenKind Tree Piece Trees (Unit {0}) Seen (Unit {0}) (Unit {0}) (Unit {0}) branch_step nothing (kind_step uses) (stmt_step uses) piece_step block_step nothing expr_step nothing nothing nothing (ExprKind-F.If c x (Some y))
 
 -- `if` without `else`
-pub kind_if_alone : (uses : ℕ → Named) (c : Expr) (x : Branch) → seen_kind uses (e.If c x None) ≡ plain (λ n at. If' n (expr_tree uses c) (branch_trees uses x) Empty')
+pub kind_if_alone : (uses : ℕ → Named) (c : Expr) (x : Branch) → seen_kind uses (e.If c x None) ≡ plain (λ n at. If' (whole n at) (expr_tree uses c) (branch_trees uses x) Empty')
 unfolding seen seen_kind stmt_tree block_trees branch_trees piece
 kind_if_alone uses c x = ap (seen_kind uses) (sym (v.rolls-If c x None)) ∙ fold-roll-ExprKind Trees (Unit {0}) SeenKind Tree Piece Trees (Unit {0}) Seen (Unit {0}) (Unit {0}) (Unit {0}) branch_step nothing (kind_step uses) (stmt_step uses) piece_step block_step nothing expr_step nothing nothing nothing (ExprKind-F.If c x None)
 
 -- `return` with a value
-pub kind_return : (uses : ℕ → Named) (x : Expr) → seen_kind uses (e.Return None (Some x)) ≡ plain (λ n at. Return' n (First' (expr_tree uses x) Empty'))
+pub kind_return : (uses : ℕ → Named) (x : Expr) → seen_kind uses (e.Return None (Some x)) ≡ plain (λ n at. Return' (whole n at) (First' (expr_tree uses x) Empty'))
 unfolding seen seen_kind stmt_tree block_trees branch_trees piece
 kind_return uses x = ap (seen_kind uses) (sym (v.rolls-Return None (Some x))) ∙ fold-roll-ExprKind Trees (Unit {0}) SeenKind Tree Piece Trees (Unit {0}) Seen (Unit {0}) (Unit {0}) (Unit {0}) branch_step nothing (kind_step uses) (stmt_step uses) piece_step block_step nothing expr_step nothing nothing nothing (ExprKind-F.Return None (Some x))
 
 -- `return` alone
-pub kind_return_alone : (uses : ℕ → Named) → seen_kind uses (e.Return None None) ≡ plain (λ n at. Return' n Empty')
+pub kind_return_alone : (uses : ℕ → Named) → seen_kind uses (e.Return None None) ≡ plain (λ n at. Return' (whole n at) Empty')
 unfolding seen seen_kind stmt_tree block_trees branch_trees piece
 kind_return_alone uses = ap (seen_kind uses) (sym (v.rolls-Return None None)) ∙ fold-roll-ExprKind Trees (Unit {0}) SeenKind Tree Piece Trees (Unit {0}) Seen (Unit {0}) (Unit {0}) (Unit {0}) branch_step nothing (kind_step uses) (stmt_step uses) piece_step block_step nothing expr_step nothing nothing nothing (ExprKind-F.Return None None)
 
@@ -153,7 +153,7 @@ unfolding seen seen_kind stmt_tree block_trees branch_trees piece
 kind_return_at_alone uses l = ap (seen_kind uses) (sym (v.rolls-Return (Some l) None)) ∙ fold-roll-ExprKind Trees (Unit {0}) SeenKind Tree Piece Trees (Unit {0}) Seen (Unit {0}) (Unit {0}) (Unit {0}) branch_step nothing (kind_step uses) (stmt_step uses) piece_step block_step nothing expr_step nothing nothing nothing (ExprKind-F.Return (Some l) None)
 
 -- `throw`
-pub kind_throw : (uses : ℕ → Named) (x : Expr) → seen_kind uses (e.Throw x) ≡ plain (λ n at. Throw' n (expr_tree uses x))
+pub kind_throw : (uses : ℕ → Named) (x : Expr) → seen_kind uses (e.Throw x) ≡ plain (λ n at. Throw' (whole n at) (expr_tree uses x))
 unfolding seen seen_kind stmt_tree block_trees branch_trees piece
 kind_throw uses x = ap (seen_kind uses) (sym (v.rolls-Throw x)) ∙ fold-roll-ExprKind Trees (Unit {0}) SeenKind Tree Piece Trees (Unit {0}) Seen (Unit {0}) (Unit {0}) (Unit {0}) branch_step nothing (kind_step uses) (stmt_step uses) piece_step block_step nothing expr_step nothing nothing nothing (ExprKind-F.Throw x)
 
@@ -163,37 +163,37 @@ unfolding seen seen_kind stmt_tree block_trees branch_trees piece
 stmt_expr uses x = ap (stmt_tree uses) (sym (v.rolls-Expr x)) ∙ fold-roll-Stmt Trees (Unit {0}) SeenKind Tree Piece Trees (Unit {0}) Seen (Unit {0}) (Unit {0}) (Unit {0}) branch_step nothing (kind_step uses) (stmt_step uses) piece_step block_step nothing expr_step nothing nothing nothing (Stmt-F.Expr x)
 
 -- a local with a value
-pub stmt_local : (uses : ℕ → Named) (n : ℕ) (at : Span) (m : Bool) (i : Ident) (w : Option TypeRef) (x : Expr) → stmt_tree uses (s.Local n at m i w (Some x)) ≡ local_tree (uses n) n i.span (Some (seen uses x))
+pub stmt_local : (uses : ℕ → Named) (n : ℕ) (at : Span) (m : Bool) (i : Ident) (w : Option TypeRef) (x : Expr) → stmt_tree uses (s.Local n at m i w (Some x)) ≡ local_tree (uses n) (named_there n at i.span) (Some (seen uses x))
 unfolding seen seen_kind stmt_tree block_trees branch_trees piece
 stmt_local uses n at m i w x = ap (stmt_tree uses) (sym (v.rolls-Local n at m i w (Some x))) ∙ fold-roll-Stmt Trees (Unit {0}) SeenKind Tree Piece Trees (Unit {0}) Seen (Unit {0}) (Unit {0}) (Unit {0}) branch_step nothing (kind_step uses) (stmt_step uses) piece_step block_step nothing expr_step nothing nothing nothing (Stmt-F.Local n at m i w (Some x))
 
 -- a local without a value
-pub stmt_local_alone : (uses : ℕ → Named) (n : ℕ) (at : Span) (m : Bool) (i : Ident) (w : Option TypeRef) → stmt_tree uses (s.Local n at m i w None) ≡ local_tree (uses n) n i.span None
+pub stmt_local_alone : (uses : ℕ → Named) (n : ℕ) (at : Span) (m : Bool) (i : Ident) (w : Option TypeRef) → stmt_tree uses (s.Local n at m i w None) ≡ local_tree (uses n) (named_there n at i.span) None
 unfolding seen seen_kind stmt_tree block_trees branch_trees piece
 stmt_local_alone uses n at m i w = ap (stmt_tree uses) (sym (v.rolls-Local n at m i w None)) ∙ fold-roll-Stmt Trees (Unit {0}) SeenKind Tree Piece Trees (Unit {0}) Seen (Unit {0}) (Unit {0}) (Unit {0}) branch_step nothing (kind_step uses) (stmt_step uses) piece_step block_step nothing expr_step nothing nothing nothing (Stmt-F.Local n at m i w None)
 
 -- an assignment
-pub stmt_assign : (uses : ℕ → Named) (n : ℕ) (at : Span) (t : Expr) (a : Assignment) (x : Expr) → stmt_tree uses (s.Assign n at t a (Some x)) ≡ assign_tree (uses n) n (seen uses t).name a (Some (seen uses x))
+pub stmt_assign : (uses : ℕ → Named) (n : ℕ) (at : Span) (t : Expr) (a : Assignment) (x : Expr) → stmt_tree uses (s.Assign n at t a (Some x)) ≡ assign_tree (uses n) n at (seen uses t).name a (Some (seen uses x))
 unfolding seen seen_kind stmt_tree block_trees branch_trees piece
 stmt_assign uses n at t a x = ap (stmt_tree uses) (sym (v.rolls-Assign n at t a (Some x))) ∙ fold-roll-Stmt Trees (Unit {0}) SeenKind Tree Piece Trees (Unit {0}) Seen (Unit {0}) (Unit {0}) (Unit {0}) branch_step nothing (kind_step uses) (stmt_step uses) piece_step block_step nothing expr_step nothing nothing nothing (Stmt-F.Assign n at t a (Some x))
 
 -- `++` and `--`
-pub stmt_assign_alone : (uses : ℕ → Named) (n : ℕ) (at : Span) (t : Expr) (a : Assignment) → stmt_tree uses (s.Assign n at t a None) ≡ assign_tree (uses n) n (seen uses t).name a None
+pub stmt_assign_alone : (uses : ℕ → Named) (n : ℕ) (at : Span) (t : Expr) (a : Assignment) → stmt_tree uses (s.Assign n at t a None) ≡ assign_tree (uses n) n at (seen uses t).name a None
 unfolding seen seen_kind stmt_tree block_trees branch_trees piece
 stmt_assign_alone uses n at t a = ap (stmt_tree uses) (sym (v.rolls-Assign n at t a None)) ∙ fold-roll-Stmt Trees (Unit {0}) SeenKind Tree Piece Trees (Unit {0}) Seen (Unit {0}) (Unit {0}) (Unit {0}) branch_step nothing (kind_step uses) (stmt_step uses) piece_step block_step nothing expr_step nothing nothing nothing (Stmt-F.Assign n at t a None)
 
 -- a loop
-pub stmt_while : (uses : ℕ → Named) (n : ℕ) (at : Span) (c : Expr) (x : Branch) → stmt_tree uses (s.While n at c x) ≡ Shut' n
+pub stmt_while : (uses : ℕ → Named) (n : ℕ) (at : Span) (c : Expr) (x : Branch) → stmt_tree uses (s.While n at c x) ≡ Shut' (whole n at)
 unfolding seen seen_kind stmt_tree block_trees branch_trees piece
 stmt_while uses n at c x = ap (stmt_tree uses) (sym (v.rolls-While n at c x)) ∙ fold-roll-Stmt Trees (Unit {0}) SeenKind Tree Piece Trees (Unit {0}) Seen (Unit {0}) (Unit {0}) (Unit {0}) branch_step nothing (kind_step uses) (stmt_step uses) piece_step block_step nothing expr_step nothing nothing nothing (Stmt-F.While n at c x)
 
 -- a loop with its condition at its end
-pub stmt_do_while : (uses : ℕ → Named) (n : ℕ) (at : Span) (x : Block) (c : Expr) → stmt_tree uses (s.DoWhile n at x c) ≡ Shut' n
+pub stmt_do_while : (uses : ℕ → Named) (n : ℕ) (at : Span) (x : Block) (c : Expr) → stmt_tree uses (s.DoWhile n at x c) ≡ Shut' (whole n at)
 unfolding seen seen_kind stmt_tree block_trees branch_trees piece
 stmt_do_while uses n at x c = ap (stmt_tree uses) (sym (v.rolls-DoWhile n at x c)) ∙ fold-roll-Stmt Trees (Unit {0}) SeenKind Tree Piece Trees (Unit {0}) Seen (Unit {0}) (Unit {0}) (Unit {0}) branch_step nothing (kind_step uses) (stmt_step uses) piece_step block_step nothing expr_step nothing nothing nothing (Stmt-F.DoWhile n at x c)
 
 -- a loop over numbers
-pub stmt_for : (uses : ℕ → Named) (n : ℕ) (at : Span) (i : Ident) (w : Option TypeRef) (l : Expr) (o : Progression) (h : Expr) (x : Branch) → stmt_tree uses (s.For n at i w l o h x) ≡ Shut' n
+pub stmt_for : (uses : ℕ → Named) (n : ℕ) (at : Span) (i : Ident) (w : Option TypeRef) (l : Expr) (o : Progression) (h : Expr) (x : Branch) → stmt_tree uses (s.For n at i w l o h x) ≡ Shut' (whole n at)
 unfolding seen seen_kind stmt_tree block_trees branch_trees piece
 stmt_for uses n at i w l o h x = ap (stmt_tree uses) (sym (v.rolls-For n at i w l o h x)) ∙ fold-roll-Stmt Trees (Unit {0}) SeenKind Tree Piece Trees (Unit {0}) Seen (Unit {0}) (Unit {0}) (Unit {0}) branch_step nothing (kind_step uses) (stmt_step uses) piece_step block_step nothing expr_step nothing nothing nothing (Stmt-F.For n at i w l o h x)
 
@@ -225,12 +225,12 @@ block_list uses x = fold_out-Block Trees (Unit {0}) SeenKind Tree Piece Trees (U
 -- ---- whatever may not be written
 
 -- `if`, with or without `else`
-pub kind_if_any : (uses : ℕ → Named) (c : Expr) (x : Branch) (y : Option Branch) → seen_kind uses (e.If c x y) ≡ plain (λ n at. If' n (expr_tree uses c) (branch_trees uses x) (otherwise (option_map (branch_trees uses) y)))
+pub kind_if_any : (uses : ℕ → Named) (c : Expr) (x : Branch) (y : Option Branch) → seen_kind uses (e.If c x y) ≡ plain (λ n at. If' (whole n at) (expr_tree uses c) (branch_trees uses x) (otherwise (option_map (branch_trees uses) y)))
 kind_if_any uses c x (Some y) = kind_if uses c x y
 kind_if_any uses c x None = kind_if_alone uses c x
 
 -- `return`, with or without a value
-pub kind_return_any : (uses : ℕ → Named) (w : Option Expr) → seen_kind uses (e.Return None w) ≡ plain (λ n at. Return' n (seen_optional (option_map (seen uses) w)))
+pub kind_return_any : (uses : ℕ → Named) (w : Option Expr) → seen_kind uses (e.Return None w) ≡ plain (λ n at. Return' (whole n at) (seen_optional (option_map (seen uses) w)))
 kind_return_any uses (Some x) = kind_return uses x
 kind_return_any uses None = kind_return_alone uses
 
@@ -240,12 +240,12 @@ kind_return_at_any uses l (Some x) = kind_return_at uses l x
 kind_return_at_any uses l None = kind_return_at_alone uses l
 
 -- a local, with or without a value
-pub stmt_local_any : (uses : ℕ → Named) (n : ℕ) (at : Span) (m : Bool) (i : Ident) (w : Option TypeRef) (x : Option Expr) → stmt_tree uses (s.Local n at m i w x) ≡ local_tree (uses n) n i.span (option_map (seen uses) x)
+pub stmt_local_any : (uses : ℕ → Named) (n : ℕ) (at : Span) (m : Bool) (i : Ident) (w : Option TypeRef) (x : Option Expr) → stmt_tree uses (s.Local n at m i w x) ≡ local_tree (uses n) (named_there n at i.span) (option_map (seen uses) x)
 stmt_local_any uses n at m i w (Some x) = stmt_local uses n at m i w x
 stmt_local_any uses n at m i w None = stmt_local_alone uses n at m i w
 
 -- an assignment, with or without a value
-pub stmt_assign_any : (uses : ℕ → Named) (n : ℕ) (at : Span) (t : Expr) (a : Assignment) (x : Option Expr) → stmt_tree uses (s.Assign n at t a x) ≡ assign_tree (uses n) n (seen uses t).name a (option_map (seen uses) x)
+pub stmt_assign_any : (uses : ℕ → Named) (n : ℕ) (at : Span) (t : Expr) (a : Assignment) (x : Option Expr) → stmt_tree uses (s.Assign n at t a x) ≡ assign_tree (uses n) n at (seen uses t).name a (option_map (seen uses) x)
 stmt_assign_any uses n at t a (Some x) = stmt_assign uses n at t a x
 stmt_assign_any uses n at t a None = stmt_assign_alone uses n at t a
 

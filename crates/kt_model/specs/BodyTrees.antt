@@ -35,25 +35,32 @@ pub data Operation : Type 0 where
   Equal' : (operator : Equality) → Operation
   BuiltIn' : (name : ℕ) (returns : Bool) → Operation
 
+-- What a tree is known by: its number, its span, and the span of the name that it declares, reads, assigns or calls, which is its own span where it has
+-- none.
+pub record Mark : Type 0 where
+  pub number : ℕ
+  pub span : Span
+  pub word : Span
+
 -- A local is known by its declaration, and where a tree names one, `at` is that name's span. An assignment is `fixed` where its local is a `val`. A
 -- compound assignment reads its local first; its operand is not written in `x++` and `x--`. A call `returns` unless its function is declared `Nothing`.
 mutual
   pub data Tree : Type 0 where
-    Operation' : (n : ℕ) (operation : Operation) (parts : Trees) → Tree
-    Name' : (n : ℕ) (at : Span) (x : ℕ) → Tree
-    Paren' : (n : ℕ) (e : Tree) → Tree
-    Not' : (n : ℕ) (e : Tree) → Tree
-    And' : (n : ℕ) (a b : Tree) → Tree
-    Or' : (n : ℕ) (a b : Tree) → Tree
-    If' : (n : ℕ) (c : Tree) (a b : Trees) → Tree
-    Declare' : (n x : ℕ) → Tree
-    Local' : (n : ℕ) (at : Span) (x : ℕ) (e : Tree) → Tree
-    Assign' : (n : ℕ) (at : Span) (x : ℕ) (fixed : Bool) (e : Tree) → Tree
-    Compound' : (n : ℕ) (at : Span) (x : ℕ) (fixed : Bool) (operation : Operation) (operand : Trees) → Tree
-    Call' : (n f : ℕ) (returns : Bool) (arguments : Trees) → Tree
-    Return' : (n : ℕ) (value : Trees) → Tree
-    Throw' : (n : ℕ) (e : Tree) → Tree
-    Shut' : (n : ℕ) → Tree
+    Operation' : (n : Mark) (operation : Operation) (parts : Trees) → Tree
+    Name' : (n : Mark) (at : Span) (x : ℕ) → Tree
+    Paren' : (n : Mark) (e : Tree) → Tree
+    Not' : (n : Mark) (e : Tree) → Tree
+    And' : (n : Mark) (a b : Tree) → Tree
+    Or' : (n : Mark) (a b : Tree) → Tree
+    If' : (n : Mark) (c : Tree) (a b : Trees) → Tree
+    Declare' : (n : Mark) (x : ℕ) → Tree
+    Local' : (n : Mark) (at : Span) (x : ℕ) (e : Tree) → Tree
+    Assign' : (n : Mark) (at : Span) (x : ℕ) (fixed : Bool) (e : Tree) → Tree
+    Compound' : (n : Mark) (at : Span) (x : ℕ) (fixed : Bool) (operation : Operation) (operand : Trees) → Tree
+    Call' : (n : Mark) (f : ℕ) (returns : Bool) (arguments : Trees) → Tree
+    Return' : (n : Mark) (value : Trees) → Tree
+    Throw' : (n : Mark) (e : Tree) → Tree
+    Shut' : (n : Mark) → Tree
 
   -- trees one behind another: the statements of a block, the parts of a tree
   pub data Trees : Type 0 where
@@ -61,21 +68,21 @@ mutual
     First' : (t : Tree) (rest : Trees) → Trees
 
 abbrev pub number : Tree → ℕ
-number (Operation' n operation parts) = n
-number (Name' n at x) = n
-number (Paren' n e) = n
-number (Not' n e) = n
-number (And' n a b) = n
-number (Or' n a b) = n
-number (If' n c a b) = n
-number (Declare' n x) = n
-number (Local' n at x e) = n
-number (Assign' n at x fixed e) = n
-number (Compound' n at x fixed operation operand) = n
-number (Call' n f returns arguments) = n
-number (Return' n value) = n
-number (Throw' n e) = n
-number (Shut' n) = n
+number (Operation' n operation parts) = n.number
+number (Name' n at x) = n.number
+number (Paren' n e) = n.number
+number (Not' n e) = n.number
+number (And' n a b) = n.number
+number (Or' n a b) = n.number
+number (If' n c a b) = n.number
+number (Declare' n x) = n.number
+number (Local' n at x e) = n.number
+number (Assign' n at x fixed e) = n.number
+number (Compound' n at x fixed operation operand) = n.number
+number (Call' n f returns arguments) = n.number
+number (Return' n value) = n.number
+number (Throw' n e) = n.number
+number (Shut' n) = n.number
 
 abbrev pub listed : List Tree → Trees
 listed [] = Empty'
@@ -124,25 +131,32 @@ abbrev pub seen_optional : Option Seen → Trees
 seen_optional (Some e) = First' e.tree Empty'
 seen_optional None = Empty'
 
+-- the mark of a tree without a name, and of one with a name there
+abbrev pub whole : ℕ → Span → Mark
+whole n at = record { number = n; span = at; word = at }
+
+abbrev pub named_there : ℕ → Span → Span → Mark
+named_there n at word = record { number = n; span = at; word = word }
+
 abbrev pub plain : (ℕ → Span → Tree) → SeenKind
 plain f = record { tree_at = f; is_name = false }
 
 abbrev pub operation : Operation → Trees → SeenKind
-operation o parts = plain (λ n at. Operation' n o parts)
+operation o parts = plain (λ n at. Operation' (whole n at) o parts)
 
 abbrev pub shut : SeenKind
-shut = plain (λ n at. Shut' n)
+shut = plain (λ n at. Shut' (whole n at))
 
 -- a name that stands alone
 abbrev pub name_tree : Named → ℕ → Span → Tree
-name_tree (named.Variable x fixed) n at = Name' n at x
-name_tree _ n at = Shut' n
+name_tree (named.Variable x fixed) n at = Name' (whole n at) at x
+name_tree _ n at = Shut' (whole n at)
 
 -- a call without a lambda
-abbrev pub call_tree : Named → Trees → ℕ → Tree
-call_tree (named.Function f returns) arguments n = Call' n f returns arguments
-call_tree (named.BuiltIn name returns) arguments n = Operation' n (BuiltIn' name returns) arguments
-call_tree _ arguments n = Shut' n
+abbrev pub call_tree : Named → Trees → Mark → Tree
+call_tree (named.Function f returns) arguments m = Call' m f returns arguments
+call_tree (named.BuiltIn name returns) arguments m = Operation' m (BuiltIn' name returns) arguments
+call_tree _ arguments m = Shut' m
 
 abbrev pub kind_step : (ℕ → Named) → ExprKind-F Trees (Unit {0}) SeenKind Tree Piece Trees (Unit {0}) Seen (Unit {0}) (Unit {0}) (Unit {0}) → SeenKind
 kind_step uses (ExprKind-F.Int k) = operation (Int' k) Empty'
@@ -150,25 +164,25 @@ kind_step uses (ExprKind-F.Bool b) = operation (Bool' b) Empty'
 kind_step uses ExprKind-F.Null = operation Null' Empty'
 kind_step uses (ExprKind-F.Name x) = record { tree_at = λ n at. name_tree (uses n) n at; is_name = true }
 kind_step uses (ExprKind-F.Template pieces) = operation (Template' (texts_of pieces)) (inserted_of pieces)
-kind_step uses (ExprKind-F.Paren e) = plain (λ n at. Paren' n e.tree)
-kind_step uses (ExprKind-F.Call callee arguments None) = plain (λ n at. call_tree (uses n) (seen_trees arguments) n)
+kind_step uses (ExprKind-F.Paren e) = plain (λ n at. Paren' (whole n at) e.tree)
+kind_step uses (ExprKind-F.Call callee arguments None) = plain (λ n at. call_tree (uses n) (seen_trees arguments) (named_there n at callee.span))
 kind_step uses (ExprKind-F.Sign sign e) = operation (Sign' sign) (First' e.tree Empty')
-kind_step uses (ExprKind-F.Not e) = plain (λ n at. Not' n e.tree)
+kind_step uses (ExprKind-F.Not e) = plain (λ n at. Not' (whole n at) e.tree)
 kind_step uses (ExprKind-F.Sum a b) = operation Sum' (First' a.tree (First' b.tree Empty'))
 kind_step uses (ExprKind-F.Arithmetic o a b) = operation (Arithmetic' o) (First' a.tree (First' b.tree Empty'))
 kind_step uses (ExprKind-F.Compare o a b) = operation (Compare' o) (First' a.tree (First' b.tree Empty'))
 kind_step uses (ExprKind-F.Equal o a b) = operation (Equal' o) (First' a.tree (First' b.tree Empty'))
-kind_step uses (ExprKind-F.And a b) = plain (λ n at. And' n a.tree b.tree)
-kind_step uses (ExprKind-F.Or a b) = plain (λ n at. Or' n a.tree b.tree)
-kind_step uses (ExprKind-F.If c a b) = plain (λ n at. If' n c.tree a (otherwise b))
-kind_step uses (ExprKind-F.Return None value) = plain (λ n at. Return' n (seen_optional value))
-kind_step uses (ExprKind-F.Throw e) = plain (λ n at. Throw' n e.tree)
+kind_step uses (ExprKind-F.And a b) = plain (λ n at. And' (whole n at) a.tree b.tree)
+kind_step uses (ExprKind-F.Or a b) = plain (λ n at. Or' (whole n at) a.tree b.tree)
+kind_step uses (ExprKind-F.If c a b) = plain (λ n at. If' (whole n at) c.tree a (otherwise b))
+kind_step uses (ExprKind-F.Return None value) = plain (λ n at. Return' (whole n at) (seen_optional value))
+kind_step uses (ExprKind-F.Throw e) = plain (λ n at. Throw' (whole n at) e.tree)
 kind_step uses _ = shut
 
-abbrev pub local_tree : Named → ℕ → Span → Option Seen → Tree
-local_tree (named.Variable x fixed) n at None = Declare' n x
-local_tree (named.Variable x fixed) n at (Some e) = Local' n at x e.tree
-local_tree _ n at e = Shut' n
+abbrev pub local_tree : Named → Mark → Option Seen → Tree
+local_tree (named.Variable x fixed) m None = Declare' m x
+local_tree (named.Variable x fixed) m (Some e) = Local' m m.word x e.tree
+local_tree _ m e = Shut' m
 
 -- how a compound assignment makes its value
 abbrev pub compound_of : Assignment → Option Operation
@@ -176,23 +190,23 @@ compound_of assignment.Plain = None
 compound_of assignment.Sum = Some Sum'
 compound_of (assignment.Arithmetic o) = Some (Arithmetic' o)
 
-abbrev pub assigned_tree : ℕ → Span → ℕ → Bool → Option Operation → Option Seen → Tree
-assigned_tree n at x fixed None (Some e) = Assign' n at x fixed e.tree
-assigned_tree n at x fixed None None = Shut' n
-assigned_tree n at x fixed (Some o) e = Compound' n at x fixed o (seen_optional e)
+abbrev pub assigned_tree : Mark → ℕ → Bool → Option Operation → Option Seen → Tree
+assigned_tree m x fixed None (Some e) = Assign' m m.word x fixed e.tree
+assigned_tree m x fixed None None = Shut' m
+assigned_tree m x fixed (Some o) e = Compound' m m.word x fixed o (seen_optional e)
 
 -- an assignment of a name
-abbrev pub assign_tree : Named → ℕ → Option Span → Assignment → Option Seen → Tree
-assign_tree (named.Variable x fixed) n (Some at) a e = assigned_tree n at x fixed (compound_of a) e
-assign_tree _ n at a e = Shut' n
+abbrev pub assign_tree : Named → ℕ → Span → Option Span → Assignment → Option Seen → Tree
+assign_tree (named.Variable x fixed) n at (Some word) a e = assigned_tree (named_there n at word) x fixed (compound_of a) e
+assign_tree _ n at word a e = Shut' (whole n at)
 
 abbrev pub stmt_step : (ℕ → Named) → Stmt-F Trees (Unit {0}) SeenKind Tree Piece Trees (Unit {0}) Seen (Unit {0}) (Unit {0}) (Unit {0}) → Tree
 stmt_step uses (Stmt-F.Expr e) = e.tree
-stmt_step uses (Stmt-F.Local n span is_var ident written e) = local_tree (uses n) n ident.span e
-stmt_step uses (Stmt-F.Assign n span target a e) = assign_tree (uses n) n target.name a e
-stmt_step uses (Stmt-F.While n span c b) = Shut' n
-stmt_step uses (Stmt-F.DoWhile n span b c) = Shut' n
-stmt_step uses (Stmt-F.For n span x written low p high b) = Shut' n
+stmt_step uses (Stmt-F.Local n span is_var ident written e) = local_tree (uses n) (named_there n span ident.span) e
+stmt_step uses (Stmt-F.Assign n span target a e) = assign_tree (uses n) n span target.name a e
+stmt_step uses (Stmt-F.While n span c b) = Shut' (whole n span)
+stmt_step uses (Stmt-F.DoWhile n span b c) = Shut' (whole n span)
+stmt_step uses (Stmt-F.For n span x written low p high b) = Shut' (whole n span)
 
 abbrev pub branch_step : Branch-F Trees (Unit {0}) SeenKind Tree Piece Trees (Unit {0}) Seen (Unit {0}) (Unit {0}) (Unit {0}) → Trees
 branch_step (Branch-F.Braced b) = b

@@ -41,21 +41,21 @@ occurs n g c (x ∷ xs) = hits n g c x + occurs n g c xs
 -- how many trees in a tree have a number
 abbrev mutual
   pub times : ℕ → Tree → ℕ
-  times m (Operation' n o parts) = only_if m n 1 + all_times m parts
-  times m (Name' n at x) = only_if m n 1
-  times m (Paren' n e) = only_if m n 1 + times m e
-  times m (Not' n e) = only_if m n 1 + times m e
-  times m (And' n a b) = only_if m n 1 + (times m a + times m b)
-  times m (Or' n a b) = only_if m n 1 + (times m a + times m b)
-  times m (If' n c a b) = only_if m n 1 + (times m c + (all_times m a + all_times m b))
-  times m (Declare' n x) = only_if m n 1
-  times m (Local' n at x e) = only_if m n 1 + times m e
-  times m (Assign' n at x fixed e) = only_if m n 1 + times m e
-  times m (Compound' n at x fixed o operand) = only_if m n 1 + all_times m operand
-  times m (Call' n f returns arguments) = only_if m n 1 + all_times m arguments
-  times m (Return' n value) = only_if m n 1 + all_times m value
-  times m (Throw' n e) = only_if m n 1 + times m e
-  times m (Shut' n) = only_if m n 1
+  times m (Operation' n o parts) = only_if m n.number 1 + all_times m parts
+  times m (Name' n at x) = only_if m n.number 1
+  times m (Paren' n e) = only_if m n.number 1 + times m e
+  times m (Not' n e) = only_if m n.number 1 + times m e
+  times m (And' n a b) = only_if m n.number 1 + (times m a + times m b)
+  times m (Or' n a b) = only_if m n.number 1 + (times m a + times m b)
+  times m (If' n c a b) = only_if m n.number 1 + (times m c + (all_times m a + all_times m b))
+  times m (Declare' n x) = only_if m n.number 1
+  times m (Local' n at x e) = only_if m n.number 1 + times m e
+  times m (Assign' n at x fixed e) = only_if m n.number 1 + times m e
+  times m (Compound' n at x fixed o operand) = only_if m n.number 1 + all_times m operand
+  times m (Call' n f returns arguments) = only_if m n.number 1 + all_times m arguments
+  times m (Return' n value) = only_if m n.number 1 + all_times m value
+  times m (Throw' n e) = only_if m n.number 1 + times m e
+  times m (Shut' n) = only_if m n.number 1
 
   pub all_times : ℕ → Trees → ℕ
   all_times m Empty' = 0

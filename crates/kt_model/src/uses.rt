@@ -4,6 +4,7 @@ ghost use Rattle.std.specs.List.Sorted.{IsStrictlyIncreasing};
 ghost use Rattle.kt_model.specs.NameUses.{named_at, named_if, parameters_at};
 
 use crate::class_table::{ClassTable, Member, Numbers};
+use crate::kinds::KtType;
 use kt_tree::Span;
 use kt_tree::ast::File;
 use sqlite_items::Items;
@@ -30,6 +31,9 @@ pub struct Declaration {
     pub is_var: bool,
     /// Whether it is a function whose written result is `Nothing`.
     pub is_nothing: bool,
+    /// The type that is written: of a local or a parameter its own, of a function its result. A function with a block in braces has the result `Unit` where
+    /// none is written.
+    pub written: Option<KtType>,
 }
 
 /// What the name in a tree stands for, by the declaration's place. There is a row for each name that stands alone, each call of a name, each assignment of
