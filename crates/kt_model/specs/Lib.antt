@@ -13,9 +13,11 @@ pub mod Subtypes
 pub mod Members
 pub mod Settled
 pub mod TopNames
+pub mod TreeSites
 pub mod Sites
 pub mod DeclarationRules
 pub mod Outlines
+pub mod MemberRules
 pub mod NameUses
 pub mod BodyTrees
 pub mod ControlFlow
