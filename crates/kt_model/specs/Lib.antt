@@ -21,3 +21,5 @@ pub mod BodyTrees
 pub mod ControlFlow
 pub mod Bodies
 pub mod NodeKeys
+pub mod DeadTrees
+pub mod Sweeps

@@ -4,6 +4,7 @@
 #![tactic(auto)]
 
 pub mod class_table;
+pub mod dead;
 pub mod finding;
 pub mod graph;
 pub mod kinds;
