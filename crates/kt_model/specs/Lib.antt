@@ -23,3 +23,5 @@ pub mod BodyTrees
 pub mod ControlFlow
 pub mod Bodies
 pub mod NodeKeys
+pub mod DeadTrees
+pub mod Sweeps

@@ -5,6 +5,7 @@
 
 pub mod body_site;
 pub mod class_table;
+pub mod dead;
 pub mod finding;
 pub mod graph;
 pub mod kinds;
