@@ -123,6 +123,20 @@ impl Uses {
         }
     }
 
+    /// The declarations of the file; a declaration's number is its place here.
+    pub fn declarations(&self) -> &[Declaration]
+        ensures { result.now ≡ self.now.declared }
+    {
+        self.declarations.as_slice()
+    }
+
+    /// What each name stands for, by the trees' numbers, which rise.
+    pub fn rows(&self) -> &[UseRow]
+        ensures { result.now ≡ self.now.rows }
+    {
+        self.uses.as_slice()
+    }
+
     /// What the name in the tree with this number stands for.
     #[tactic(auto, unfolding(crate::specs::NameUses::named_at))]
     pub fn named(&self, tree: u32) -> Named
