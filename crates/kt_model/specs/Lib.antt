@@ -28,3 +28,5 @@ pub mod NameRules
 pub mod TreeWalks
 pub mod TreeNumbers
 pub mod ShapeRules
+pub mod Typing
+pub mod TypingLaws

@@ -10,4 +10,5 @@ pub mod kinds;
 pub mod name_events;
 pub mod status;
 pub mod top_names;
+pub mod typing;
 pub mod uses;
