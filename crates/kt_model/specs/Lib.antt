@@ -25,3 +25,12 @@ pub mod Bodies
 pub mod NodeKeys
 pub mod DeadTrees
 pub mod Sweeps
+pub mod BuiltIns
+pub mod NameEvents
+pub mod Scopes
+pub mod NameRules
+pub mod TreeWalks
+pub mod TreeNumbers
+pub mod ShapeRules
+pub mod Typing
+pub mod TypingLaws

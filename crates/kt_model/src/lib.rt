@@ -10,6 +10,8 @@ pub mod finding;
 pub mod graph;
 pub mod kinds;
 pub mod modified;
+pub mod name_events;
 pub mod status;
 pub mod top_names;
+pub mod typing;
 pub mod uses;
