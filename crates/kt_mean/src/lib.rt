@@ -3,6 +3,7 @@
 #![tactic(auto)]
 
 mod laws;
+pub mod states;
 mod value;
 
 pub use laws::{depth_is_no_part, one_run};
