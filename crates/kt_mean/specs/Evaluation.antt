@@ -137,11 +137,30 @@ operated (Arithmetic' o) vs = on_two (arithmetic_of o) vs
 operated (BuiltIn' name returns) vs = built_in name vs
 operated _ vs = wrong
 
+-- the operand of `x++` and `x--` is not written
+abbrev pub operand_or_one : List Value → List Value
+operand_or_one [] = value.Int (pos 1) ∷ []
+operand_or_one (v ∷ vs) = v ∷ vs
+
+-- what is done with a value that is to lie in a type
+abbrev pub checked : Option KtType → Value → Run Value → Run Value
+checked type v r = choose (fits type v) r wrong
+
 -- ---- calls
 
 -- the calls that may be under way at once
 abbrev pub most_calls : ℕ
 most_calls = 16
+
+-- no call is one too many
+unfoldable pub limited : Run Value → Run Value
+limited r = λ s. choose (nat_lt s.calls most_calls) r (over limit.Calls) s
+
+-- each argument lies in the type of its parameter
+abbrev pub arguments_fit : (ℕ → Option KtType) → List ℕ → List Value → Bool
+arguments_fit types [] [] = true
+arguments_fit types (x ∷ xs) (v ∷ vs) = fits (types x) v && arguments_fit types xs vs
+arguments_fit types _ _ = false
 
 abbrev pub new_locals : List ℕ → List Value → Locals
 new_locals (x ∷ xs) (v ∷ vs) = with_local (new_locals xs vs) x (Some v)
@@ -190,43 +209,24 @@ module _ (p : Program) (go : Tree → Run Value) where
   abbrev pub block : Trees → Run Value
   block ts = block_from value.Unit ts
 
-  -- each argument lies in the type of its parameter
-  abbrev pub arguments_fit : List ℕ → List Value → Bool
-  arguments_fit [] [] = true
-  arguments_fit (x ∷ xs) (v ∷ vs) = fits (p.types x) v && arguments_fit xs vs
-  arguments_fit _ _ = false
-
   unfoldable pub invoke : Function → List Value → Run Value
   invoke f vs = λ s. turned (call_end f s.here s.calls) (λ u. block f.body (begun f vs u)) s
 
-  -- the limit on calls is looked at after the arguments
-  unfoldable pub limited : Run Value → Run Value
-  limited r = λ s. choose (nat_lt s.calls most_calls) r (over limit.Calls) s
-
   abbrev pub called : Option Function → List Value → Run Value
   called None vs = wrong
-  called (Some f) vs = choose (arguments_fit f.parameters vs) (limited (invoke f vs)) wrong
-
-  -- a value that is to lie in the type of a local
-  abbrev pub checked : ℕ → Value → Run Value → Run Value
-  checked x v r = choose (fits (p.types x) v) r wrong
+  called (Some f) vs = choose (arguments_fit p.types f.parameters vs) (limited (invoke f vs)) wrong
 
   -- a declaration without initialiser makes its local hold nothing
   abbrev pub local_tree : ℕ → Tree → Run Value
-  local_tree x e = go e >>= (λ v. checked x v (store x (Some v)))
+  local_tree x e = go e >>= (λ v. checked (p.types x) v (store x (Some v)))
 
   abbrev pub assign_tree : ℕ → Bool → Tree → Run Value
-  assign_tree x fixed e = go e >>= (λ v. checked x v (write fixed x v))
-
-  -- the operand of `x++` and `x--` is not written
-  abbrev pub operand_or_one : List Value → List Value
-  operand_or_one [] = value.Int (pos 1) ∷ []
-  operand_or_one (v ∷ vs) = v ∷ vs
+  assign_tree x fixed e = go e >>= (λ v. checked (p.types x) v (write fixed x v))
 
   -- the old value is read first, which costs no step
   abbrev pub compound_tree : ℕ → Bool → Operation → Trees → Run Value
   compound_tree x fixed o operand =
-      read x >>= (λ old. with_values operand (λ vs. operated o (old ∷ operand_or_one vs) >>= (λ v. checked x v (write fixed x v))))
+      read x >>= (λ old. with_values operand (λ vs. operated o (old ∷ operand_or_one vs) >>= (λ v. checked (p.types x) v (write fixed x v))))
 
   -- The forms that are not here are not open yet.
   abbrev pub tree_at : Tree → Run Value

@@ -7,3 +7,4 @@ pub mod Laws
 pub mod Frames
 pub mod Evaluation
 pub mod WholeRun
+pub mod EvaluationLaws

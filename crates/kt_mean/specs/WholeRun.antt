@@ -1,6 +1,7 @@
 -- The run of a program: `main`, called from an empty frame. This project's own.
 use Rattle.std.specs.Prelude.{ℕ, List, [], Option, Some, None, slice_get}
-use Rattle.kt_mean.specs.Frames.{State, Ending, Gave, Left, Over, Wrong, Outcome, no_locals}
+use Rattle.kt_model.specs.BodyTrees.{Tree}
+use Rattle.kt_mean.specs.Frames.{State, Ending, Gave, Left, Over, Wrong, Outcome, Run, no_locals}
 use Rattle.kt_mean.specs.Evaluation.{Program, eval, called}
 use Rattle.kt_mean.specs.declared.states.Value.{Value}
 use Rattle.kt_mean.specs.declared.states.Limit.{Limit}
@@ -11,9 +12,13 @@ use Rattle.kt_mean.specs.declared.states.RunEnding.TheVariants as end
 abbrev pub start : ℕ → List ℕ → State
 start steps input = record { here = record { locals = no_locals }; calls = 0; steps = steps; input = input }
 
+-- `main`, over the meaning `go` of its trees
+abbrev pub whole_within : Program → (Tree → Run Value) → ℕ → List ℕ → Outcome Value
+whole_within p go steps input = called p go (slice_get p.functions p.main) [] (start steps input)
+
 -- Each entering takes a step, so the number of steps bounds the depth as well.
 abbrev pub whole : Program → ℕ → List ℕ → Outcome Value
-whole p steps input = called p (eval p steps) (slice_get p.functions p.main) [] (start steps input)
+whole p steps input = whole_within p (eval p steps) steps input
 
 abbrev pub limit_ending : Limit → RunEnding
 limit_ending limit.Steps = end.Steps
