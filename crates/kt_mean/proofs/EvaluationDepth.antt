@@ -1,5 +1,5 @@
 -- The number that bounds the depth is no part of the meaning of bodies.
-use Rattle.std.proofs.Common.{◌≡◌, ℕ, ℤ, zero, suc, ◌-◌, ◌≤◌, ◌==◌, nat_lt, Bool, true, false, Option, Some, None, if◌then◌else◌, List, [], ◌∷◌, ◌++◌, slice_get, refl, sym, ap, ◌∙◌, arith}
+use Rattle.std.proofs.Common.{◌≡◌, ℕ, ℤ, zero, suc, ◌-◌, ◌≤◌, ◌==◌, nat_lt, Bool, true, false, Option, Some, None, if◌then◌else◌, List, [], ◌∷◌, ◌++◌, refl, sym, ap, ◌∙◌, arith}
 use Rattle.std.proofs.lemmas.Bool.{eq-eqb}
 use Rattle.kt_model.specs.declared.kinds.KtType.{KtType}
 use Rattle.kt_tree.specs.declared.ast.part.Arithmetic.{Arithmetic}
@@ -10,8 +10,8 @@ use Rattle.kt_mean.specs.declared.states.Value.TheVariants as value
 use Rattle.kt_mean.specs.declared.states.Way.TheVariants as way
 use Rattle.kt_mean.specs.declared.states.Limit.TheVariants as limit
 use Rattle.kt_mean.specs.Frames.{Frame, State, Ending, Gave, Left, Over, Wrong, Outcome, Run, ◌>>=◌, ending_after, events_after, pure, over, wrong, turned}
-use Rattle.kt_mean.specs.Evaluation.{Function, Program, choose, fits, is_unit, spend, read, read_value, store, write, write_over, print, text_of_value, on_one, on_two, signed, arithmetic_of, println_name, print_name, built_in, operated, most_calls, begun, resume, given, ended, call_end, with_values, block_from, block, arguments_fit, invoke, limited, called, checked, local_tree, assign_tree, operand_or_one, compound_tree, tree_at, entered, eval, meaning}
-use Rattle.kt_mean.specs.WholeRun.{start, whole, whole_within}
+use Rattle.kt_mean.specs.Evaluation.{Function, Program, choose, fits, is_unit, spend, read, read_value, store, write, write_over, print, text_of_value, on_one, on_two, arithmetic_of, println_name, print_name, built_in, operated, most_calls, begun, resume, given, ended, call_end, with_values, block_from, block, arguments_fit, invoke, limited, called, checked, operand_or_one, tree_at, entered, eval, meaning}
+use Rattle.kt_mean.specs.WholeRun.{start}
 use Rattle.kt_mean.specs.EvaluationLaws.{DepthIsNoPart, MeaningUnfolds, WholeIsMeaning}
 
 -- the steps left are at most so many where there is a state after
@@ -148,8 +148,8 @@ write_like : (k : ℕ) (fixed : Bool) (x : ℕ) (v : Value) → Like k (write fi
 unfolding write
 write_like k fixed x v = still k (write fixed x v) (λ s. write_falls s fixed (s.here.locals x) x v)
 
-checked_like : (k : ℕ) (type : Option KtType) (v : Value) (r : Run Value) → Like k r r → Like k (checked type v r) (checked type v r)
-checked_like k type v r h = choose_like k (fits type v) r r wrong h (λ s. wrong_falls s)
+checked_like : (k : ℕ) (written : Option KtType) (v : Value) (r : Run Value) → Like k r r → Like k (checked written v r) (checked written v r)
+checked_like k written v r h = choose_like k (fits written v) r r wrong h (λ s. wrong_falls s)
 
 -- ---- calls
 
@@ -204,7 +204,7 @@ module _ (p : Program) (k : ℕ) (go also : Tree → Run Value) (like : (t : Tre
 
   called_like : (o : Option Function) (vs : List Value) → Like k (called p go o vs) (called p also o vs)
   called_like None vs = still k wrong (λ s. wrong_falls s)
-  called_like (Some f) vs = choose_like k (arguments_fit p.types f.parameters vs) (limited (invoke p go f vs)) (limited (invoke p also f vs)) wrong (limited_like k _ _ (invoke_like f vs)) (λ s. wrong_falls s)
+  called_like (Some f) vs = choose_like k (arguments_fit p.written f.parameters vs) (limited (invoke p go f vs)) (limited (invoke p also f vs)) wrong (limited_like k _ _ (invoke_like f vs)) (λ s. wrong_falls s)
 
   tree_like : (t : Tree) → Like k (tree_at p go t) (tree_at p also t)
   tree_like (Operation' n o parts) = values_like parts _ _ (λ vs. still k (operated o vs) (λ s. operated_falls s o vs))
@@ -215,14 +215,14 @@ module _ (p : Program) (k : ℕ) (go also : Tree → Run Value) (like : (t : Tre
   tree_like (Or' n a b) = still k wrong (λ s. wrong_falls s)
   tree_like (If' n c a b) = still k wrong (λ s. wrong_falls s)
   tree_like (Declare' n x) = still k (store x None) (λ s. store_falls s x None)
-  tree_like (Local' n at x e) = bind_like k _ _ _ _ (like e) (λ v. checked_like k (p.types x) v _ (still k (store x (Some v)) (λ s. store_falls s x (Some v))))
-  tree_like (Assign' n at x fixed e) = bind_like k _ _ _ _ (like e) (λ v. checked_like k (p.types x) v _ (write_like k fixed x v))
+  tree_like (Local' n at x e) = bind_like k _ _ _ _ (like e) (λ v. checked_like k (p.written x) v _ (still k (store x (Some v)) (λ s. store_falls s x (Some v))))
+  tree_like (Assign' n at x fixed e) = bind_like k _ _ _ _ (like e) (λ v. checked_like k (p.written x) v _ (write_like k fixed x v))
   tree_like (Compound' n at x fixed o operand) =
       bind_like k _ _ _ _ (read_like k x) (λ old.
       values_like operand _ _ (λ vs.
       bind_like k _ _ _ _ (still k (operated o (old ∷ operand_or_one vs)) (λ s. operated_falls s o (old ∷ operand_or_one vs))) (λ v.
-      checked_like k (p.types x) v _ (write_like k fixed x v))))
-  tree_like (Call' n f returns arguments) = values_like arguments _ _ (λ vs. called_like (slice_get p.functions f) vs)
+      checked_like k (p.written x) v _ (write_like k fixed x v))))
+  tree_like (Call' n f returns arguments) = values_like arguments _ _ (λ vs. called_like (p.functions f) vs)
   tree_like (Return' n value) = still k wrong (λ s. wrong_falls s)
   tree_like (Throw' n e) = still k wrong (λ s. wrong_falls s)
   tree_like (Shut' n) = still k wrong (λ s. wrong_falls s)
@@ -305,4 +305,4 @@ meaning-entered p t s =
     ∙ (entered_like p n (eval p n) (meaning p) (depth_like p n n (omega arith)) t).same s (omega arith)
 
 pub whole-meaning : WholeIsMeaning
-whole-meaning p steps input = (called_like p steps (eval p steps) (meaning p) (depth_like p steps steps (omega arith)) (slice_get p.functions p.main) []).same (start steps input) (omega arith)
+whole-meaning p steps input = (called_like p steps (eval p steps) (meaning p) (depth_like p steps steps (omega arith)) (p.functions p.main) []).same (start steps input) (omega arith)

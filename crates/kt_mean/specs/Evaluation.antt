@@ -7,7 +7,7 @@
 -- A wrong use is: a local that holds nothing is read; a `val` or parameter that holds a value is assigned; an operand is of another kind than its operator
 -- needs; an argument, an assigned or a returned value lies outside the written type; a dead tree is entered; a function whose result isn't `Unit` ends
 -- without a value. There are no types in a state: what a value is, is looked at here each time, and never in the code.
-use Rattle.std.specs.Prelude.{ℕ, zero, suc, ◌+◌, ◌-◌, ◌==◌, nat_lt, ℤ, pos, Bool, true, false, ◌&&◌, not, Option, Some, None, List, [], ◌∷◌, ◌++◌, codes, slice_get, if◌then◌else◌}
+use Rattle.std.specs.Prelude.{ℕ, zero, suc, ◌+◌, ◌-◌, ◌==◌, nat_lt, ℤ, pos, Bool, true, false, ◌&&◌, not, Option, Some, None, List, [], ◌∷◌, ◌++◌, codes, if◌then◌else◌}
 use Rattle.std.specs.Int.{w32, int_wrapping_add, int_wrapping_sub, int_wrapping_mul, int_wrapping_neg}
 use Rattle.std.specs.Fmt.{signed_decimal}
 use Rattle.kt_tree.specs.declared.ast.part.Sign.{Sign}
@@ -25,17 +25,19 @@ use Rattle.kt_mean.specs.declared.states.Value.TheVariants as value
 use Rattle.kt_mean.specs.declared.states.Way.TheVariants as way
 use Rattle.kt_mean.specs.declared.states.Limit.TheVariants as limit
 
--- A function: the declarations of its parameters, its body, whether that is an expression and no block, and its result, where that is written or known.
+-- A function: the declarations of its parameters, its body, whether that is an expression and no block, and its written result; that of a block without one
+-- is `Unit`.
 pub record Function : Type 0 where
   pub parameters : List ℕ
   pub body : Trees
   pub is_expression : Bool
   pub result : Option KtType
 
--- The functions of a file, by their places; the type of each local, by its declaration; which trees are dead, by their numbers; the place of `main`.
+-- The functions of a file, by their places; the written type of each local and parameter, by its declaration; which trees are dead, by their numbers; the
+-- place of `main`.
 pub record Program : Type 0 where
-  pub functions : List Function
-  pub types : ℕ → Option KtType
+  pub functions : ℕ → Option Function
+  pub written : ℕ → Option KtType
   pub dead : ℕ → Bool
   pub main : ℕ
 
@@ -53,10 +55,14 @@ is_of head.Boolean (value.Bool b) = true
 is_of head.Int (value.Int k) = true
 is_of _ _ = false
 
--- whether it lies in the type that is written or known; in none where there is no type
+-- whether it lies in a type
+abbrev pub lies : Value → KtType → Bool
+lies v t = is_of t.head v
+
+-- whether it lies in the written type, where one is written
 abbrev pub fits : Option KtType → Value → Bool
-fits None v = false
-fits (Some t) v = is_of t.head v
+fits None v = true
+fits (Some t) v = lies v t
 
 -- the text of a value
 abbrev pub text_of_value : Value → List ℕ
@@ -142,9 +148,9 @@ abbrev pub operand_or_one : List Value → List Value
 operand_or_one [] = value.Int (pos 1) ∷ []
 operand_or_one (v ∷ vs) = v ∷ vs
 
--- what is done with a value that is to lie in a type
+-- what is done with a value that is to lie in a written type
 abbrev pub checked : Option KtType → Value → Run Value → Run Value
-checked type v r = choose (fits type v) r wrong
+checked written v r = choose (fits written v) r wrong
 
 -- ---- calls
 
@@ -158,9 +164,9 @@ limited r = λ s. choose (nat_lt s.calls most_calls) r (over limit.Calls) s
 
 -- each argument lies in the type of its parameter
 abbrev pub arguments_fit : (ℕ → Option KtType) → List ℕ → List Value → Bool
-arguments_fit types [] [] = true
-arguments_fit types (x ∷ xs) (v ∷ vs) = fits (types x) v && arguments_fit types xs vs
-arguments_fit types _ _ = false
+arguments_fit written [] [] = true
+arguments_fit written (x ∷ xs) (v ∷ vs) = fits (written x) v && arguments_fit written xs vs
+arguments_fit written _ _ = false
 
 abbrev pub new_locals : List ℕ → List Value → Locals
 new_locals (x ∷ xs) (v ∷ vs) = with_local (new_locals xs vs) x (Some v)
@@ -214,19 +220,19 @@ module _ (p : Program) (go : Tree → Run Value) where
 
   abbrev pub called : Option Function → List Value → Run Value
   called None vs = wrong
-  called (Some f) vs = choose (arguments_fit p.types f.parameters vs) (limited (invoke f vs)) wrong
+  called (Some f) vs = choose (arguments_fit p.written f.parameters vs) (limited (invoke f vs)) wrong
 
   -- a declaration without initialiser makes its local hold nothing
   abbrev pub local_tree : ℕ → Tree → Run Value
-  local_tree x e = go e >>= (λ v. checked (p.types x) v (store x (Some v)))
+  local_tree x e = go e >>= (λ v. checked (p.written x) v (store x (Some v)))
 
   abbrev pub assign_tree : ℕ → Bool → Tree → Run Value
-  assign_tree x fixed e = go e >>= (λ v. checked (p.types x) v (write fixed x v))
+  assign_tree x fixed e = go e >>= (λ v. checked (p.written x) v (write fixed x v))
 
   -- the old value is read first, which costs no step
   abbrev pub compound_tree : ℕ → Bool → Operation → Trees → Run Value
   compound_tree x fixed o operand =
-      read x >>= (λ old. with_values operand (λ vs. operated o (old ∷ operand_or_one vs) >>= (λ v. checked (p.types x) v (write fixed x v))))
+      read x >>= (λ old. with_values operand (λ vs. operated o (old ∷ operand_or_one vs) >>= (λ v. checked (p.written x) v (write fixed x v))))
 
   -- The forms that are not here are not open yet.
   abbrev pub tree_at : Tree → Run Value
@@ -237,7 +243,7 @@ module _ (p : Program) (go : Tree → Run Value) where
   tree_at (Local' n at x e) = local_tree x e
   tree_at (Assign' n at x fixed e) = assign_tree x fixed e
   tree_at (Compound' n at x fixed o operand) = compound_tree x fixed o operand
-  tree_at (Call' n f returns arguments) = with_values arguments (called (slice_get p.functions f))
+  tree_at (Call' n f returns arguments) = with_values arguments (called (p.functions f))
   tree_at _ = wrong
 
   -- the entering of a tree

@@ -1,5 +1,5 @@
 -- The run of a program: `main`, called from an empty frame. This project's own.
-use Rattle.std.specs.Prelude.{ℕ, List, [], Option, Some, None, slice_get}
+use Rattle.std.specs.Prelude.{ℕ, List, [], Option, Some, None}
 use Rattle.kt_model.specs.BodyTrees.{Tree}
 use Rattle.kt_mean.specs.Frames.{State, Ending, Gave, Left, Over, Wrong, Outcome, Run, no_locals}
 use Rattle.kt_mean.specs.Evaluation.{Program, eval, called}
@@ -14,7 +14,7 @@ start steps input = record { here = record { locals = no_locals }; calls = 0; st
 
 -- `main`, over the meaning `go` of its trees
 abbrev pub whole_within : Program → (Tree → Run Value) → ℕ → List ℕ → Outcome Value
-whole_within p go steps input = called p go (slice_get p.functions p.main) [] (start steps input)
+whole_within p go steps input = called p go (p.functions p.main) [] (start steps input)
 
 -- Each entering takes a step, so the number of steps bounds the depth as well.
 abbrev pub whole : Program → ℕ → List ℕ → Outcome Value
