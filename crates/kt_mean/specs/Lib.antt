@@ -4,3 +4,7 @@ pub mod Outcome
 pub mod Meaning
 pub mod Run
 pub mod Laws
+pub mod Frames
+pub mod Evaluation
+pub mod WholeRun
+pub mod EvaluationLaws

@@ -2,8 +2,11 @@
 //! specs/; below are the trees and the written rules, above the laws of soundness and the interpreter.
 #![tactic(auto)]
 
+mod evaluation_laws;
 mod laws;
+pub mod states;
 mod value;
 
+pub use evaluation_laws::{depth_bound_is_no_part, meaning_unfolds, whole_is_meaning};
 pub use laws::{depth_is_no_part, one_run};
 pub use value::{Limit, RunEnding, Value};

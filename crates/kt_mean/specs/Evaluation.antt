@@ -1,0 +1,259 @@
+-- What each form of tree does, over the meaning `go` of its parts.
+--
+-- From the Kotlin specification, "Statements", "Expressions" and "Function declaration"; that each entering of a tree costs one step, and that at most 16
+-- calls are under way, is this project's own. One definition for each form; only `eval` recurses, on a number that bounds how deep trees are entered in
+-- one another.
+--
+-- A wrong use is: a local that holds nothing is read; a `val` or parameter that holds a value is assigned; an operand is of another kind than its operator
+-- needs; an argument, an assigned or a returned value lies outside the written type; a dead tree is entered; a function whose result isn't `Unit` ends
+-- without a value. There are no types in a state: what a value is, is looked at here each time, and never in the code.
+use Rattle.std.specs.Prelude.{ℕ, zero, suc, ◌+◌, ◌-◌, ◌==◌, nat_lt, ℤ, pos, Bool, true, false, ◌&&◌, not, Option, Some, None, List, [], ◌∷◌, ◌++◌, codes, if◌then◌else◌}
+use Rattle.std.specs.Int.{w32, int_wrapping_add, int_wrapping_sub, int_wrapping_mul, int_wrapping_neg}
+use Rattle.std.specs.Fmt.{signed_decimal}
+use Rattle.kt_tree.specs.declared.ast.part.Sign.{Sign}
+use Rattle.kt_tree.specs.declared.ast.part.Sign.TheVariants as sign
+use Rattle.kt_tree.specs.declared.ast.part.Arithmetic.{Arithmetic}
+use Rattle.kt_tree.specs.declared.ast.part.Arithmetic.TheVariants as arithmetic
+use Rattle.kt_model.specs.declared.kinds.KtType.{KtType}
+use Rattle.kt_model.specs.declared.kinds.Head.{Head}
+use Rattle.kt_model.specs.declared.kinds.Head.TheVariants as head
+use Rattle.kt_model.specs.BodyTrees.{Operation, Int', Sign', Sum', Arithmetic', BuiltIn', Tree, Trees, Empty', First', Operation', Name', Paren', Declare', Local', Assign', Compound', Call', number}
+use Rattle.kt_mean.specs.Events.{Printed}
+use Rattle.kt_mean.specs.Frames.{Locals, no_locals, with_local, Frame, State, Ending, Gave, Left, Over, Wrong, Run, ◌>>=◌, pure, over, wrong, turned}
+use Rattle.kt_mean.specs.declared.states.Value.{Value}
+use Rattle.kt_mean.specs.declared.states.Value.TheVariants as value
+use Rattle.kt_mean.specs.declared.states.Way.TheVariants as way
+use Rattle.kt_mean.specs.declared.states.Limit.TheVariants as limit
+
+-- A function: the declarations of its parameters, its body, whether that is an expression and no block, and its written result; that of a block without one
+-- is `Unit`.
+pub record Function : Type 0 where
+  pub parameters : List ℕ
+  pub body : Trees
+  pub is_expression : Bool
+  pub result : Option KtType
+
+-- The functions of a file, by their places; the written type of each local and parameter, by its declaration; which trees are dead, by their numbers; the
+-- place of `main`.
+pub record Program : Type 0 where
+  pub functions : ℕ → Option Function
+  pub written : ℕ → Option KtType
+  pub dead : ℕ → Bool
+  pub main : ℕ
+
+abbrev pub choose : {A : Type 0} → Bool → A → A → A
+choose true a b = a
+choose false a b = b
+
+-- ---- values
+
+-- whether a value is one of this class
+abbrev pub is_of : Head → Value → Bool
+is_of head.Any v = true
+is_of head.Unit value.Unit = true
+is_of head.Boolean (value.Bool b) = true
+is_of head.Int (value.Int k) = true
+is_of _ _ = false
+
+-- whether it lies in a type
+abbrev pub lies : Value → KtType → Bool
+lies v t = is_of t.head v
+
+-- whether it lies in the written type, where one is written
+abbrev pub fits : Option KtType → Value → Bool
+fits None v = true
+fits (Some t) v = lies v t
+
+-- the text of a value
+abbrev pub text_of_value : Value → List ℕ
+text_of_value value.Unit = codes "kotlin.Unit"
+text_of_value (value.Bool true) = codes "true"
+text_of_value (value.Bool false) = codes "false"
+text_of_value (value.Int k) = signed_decimal k
+
+-- ---- steps, locals, output
+
+unfoldable pub spend : Run (Unit {0})
+spend = λ s. if s.steps == 0 then over limit.Steps s else pure tt (record s { steps = s.steps - 1 })
+
+abbrev pub put : State → ℕ → Option Value → State
+put s x o = record s { here = record { locals = with_local s.here.locals x o } }
+
+abbrev pub read_value : Option Value → Run Value
+read_value None = wrong
+read_value (Some v) = pure v
+
+unfoldable pub read : ℕ → Run Value
+read x = λ s. read_value (s.here.locals x) s
+
+unfoldable pub store : ℕ → Option Value → Run Value
+store x o = λ s. record { ending = Gave value.Unit (put s x o); events = [] }
+
+-- an assignment; of a `val` or parameter only where it holds nothing
+abbrev pub write_over : Bool → Option Value → ℕ → Value → Run Value
+write_over true (Some old) x v = wrong
+write_over true None x v = store x (Some v)
+write_over false old x v = store x (Some v)
+
+unfoldable pub write : Bool → ℕ → Value → Run Value
+write fixed x v = λ s. write_over fixed (s.here.locals x) x v s
+
+unfoldable pub print : List ℕ → Run Value
+print text = λ s. record { ending = Gave value.Unit s; events = Printed text ∷ [] }
+
+-- ---- operations on values; Int has 32 bits and wraps
+
+abbrev pub on_one : (ℤ → Run Value) → List Value → Run Value
+on_one f (value.Int a ∷ []) = f a
+on_one f _ = wrong
+
+abbrev pub on_two : (ℤ → ℤ → Run Value) → List Value → Run Value
+on_two f (value.Int a ∷ value.Int b ∷ []) = f a b
+on_two f _ = wrong
+
+abbrev pub signed : Sign → ℤ → ℤ
+signed sign.Minus a = int_wrapping_neg w32 a
+signed sign.Plus a = a
+
+-- Division comes with exceptions.
+abbrev pub arithmetic_of : Arithmetic → ℤ → ℤ → Run Value
+arithmetic_of arithmetic.Subtract a b = pure (value.Int (int_wrapping_sub w32 a b))
+arithmetic_of arithmetic.Multiply a b = pure (value.Int (int_wrapping_mul w32 a b))
+arithmetic_of _ a b = wrong
+
+-- the numbers of the names of the built-in functions
+abbrev pub println_name : ℕ
+println_name = 20
+
+abbrev pub print_name : ℕ
+print_name = 21
+
+abbrev pub built_in : ℕ → List Value → Run Value
+built_in name [] = choose (name == println_name) (print (10 ∷ [])) wrong
+built_in name (v ∷ []) =
+    choose (name == println_name) (print (text_of_value v ++ 10 ∷ [])) (choose (name == print_name) (print (text_of_value v)) wrong)
+built_in name _ = wrong
+
+-- The operations that are not here are not open yet.
+abbrev pub operated : Operation → List Value → Run Value
+operated (Int' k) [] = pure (value.Int (pos k))
+operated (Sign' s) vs = on_one (λ a. pure (value.Int (signed s a))) vs
+operated Sum' vs = on_two (λ a b. pure (value.Int (int_wrapping_add w32 a b))) vs
+operated (Arithmetic' o) vs = on_two (arithmetic_of o) vs
+operated (BuiltIn' name returns) vs = built_in name vs
+operated _ vs = wrong
+
+-- the operand of `x++` and `x--` is not written
+abbrev pub operand_or_one : List Value → List Value
+operand_or_one [] = value.Int (pos 1) ∷ []
+operand_or_one (v ∷ vs) = v ∷ vs
+
+-- what is done with a value that is to lie in a written type
+abbrev pub checked : Option KtType → Value → Run Value → Run Value
+checked written v r = choose (fits written v) r wrong
+
+-- ---- calls
+
+-- the calls that may be under way at once
+abbrev pub most_calls : ℕ
+most_calls = 16
+
+-- no call is one too many
+unfoldable pub limited : Run Value → Run Value
+limited r = λ s. choose (nat_lt s.calls most_calls) r (over limit.Calls) s
+
+-- each argument lies in the type of its parameter
+abbrev pub arguments_fit : (ℕ → Option KtType) → List ℕ → List Value → Bool
+arguments_fit written [] [] = true
+arguments_fit written (x ∷ xs) (v ∷ vs) = fits (written x) v && arguments_fit written xs vs
+arguments_fit written _ _ = false
+
+abbrev pub new_locals : List ℕ → List Value → Locals
+new_locals (x ∷ xs) (v ∷ vs) = with_local (new_locals xs vs) x (Some v)
+new_locals _ _ = no_locals
+
+-- as a call begins
+abbrev pub begun : Function → List Value → State → State
+begun f vs s = record s { here = record { locals = new_locals f.parameters vs }; calls = s.calls + 1 }
+
+-- back in the frame that made the call, which is as it was
+abbrev pub resume : Frame → ℕ → State → State
+resume here calls s = record s { here = here; calls = calls }
+
+-- what a function gives lies in its result
+abbrev pub given : Option KtType → Value → State → Ending Value
+given result v s = choose (fits result v) (Gave v s) Wrong
+
+abbrev pub is_unit : Option KtType → Bool
+is_unit None = false
+is_unit (Some t) = elim t.head [ head.Unit ↦ not t.nullable | _ ↦ false ]
+
+-- where a body runs to its end: that of an expression gives its value, a block gives `Unit`
+abbrev pub ended : Bool → Option KtType → Value → State → Ending Value
+ended true result v s = given result v s
+ended false result v s = choose (is_unit result) (Gave value.Unit s) Wrong
+
+abbrev pub call_end : Function → Frame → ℕ → Ending Value → Ending Value
+call_end f here calls (Gave v s) = ended f.is_expression f.result v (resume here calls s)
+call_end f here calls (Left (way.Return v) s) = given f.result v (resume here calls s)
+call_end f here calls (Over k) = Over k
+call_end f here calls Wrong = Wrong
+
+-- ---- trees
+
+module _ (p : Program) (go : Tree → Run Value) where
+  -- the parts of a tree from left to right, then what is done with their values
+  abbrev pub with_values : Trees → (List Value → Run Value) → Run Value
+  with_values Empty' f = f []
+  with_values (First' t rest) f = go t >>= (λ v. with_values rest (λ vs. f (v ∷ vs)))
+
+  -- the trees of a block, one behind another; its value is that of the last
+  abbrev pub block_from : Value → Trees → Run Value
+  block_from v Empty' = pure v
+  block_from v (First' t rest) = go t >>= (λ w. block_from w rest)
+
+  abbrev pub block : Trees → Run Value
+  block ts = block_from value.Unit ts
+
+  unfoldable pub invoke : Function → List Value → Run Value
+  invoke f vs = λ s. turned (call_end f s.here s.calls) (λ u. block f.body (begun f vs u)) s
+
+  abbrev pub called : Option Function → List Value → Run Value
+  called None vs = wrong
+  called (Some f) vs = choose (arguments_fit p.written f.parameters vs) (limited (invoke f vs)) wrong
+
+  -- a declaration without initialiser makes its local hold nothing
+  abbrev pub local_tree : ℕ → Tree → Run Value
+  local_tree x e = go e >>= (λ v. checked (p.written x) v (store x (Some v)))
+
+  abbrev pub assign_tree : ℕ → Bool → Tree → Run Value
+  assign_tree x fixed e = go e >>= (λ v. checked (p.written x) v (write fixed x v))
+
+  -- the old value is read first, which costs no step
+  abbrev pub compound_tree : ℕ → Bool → Operation → Trees → Run Value
+  compound_tree x fixed o operand =
+      read x >>= (λ old. with_values operand (λ vs. operated o (old ∷ operand_or_one vs) >>= (λ v. checked (p.written x) v (write fixed x v))))
+
+  -- The forms that are not here are not open yet.
+  abbrev pub tree_at : Tree → Run Value
+  tree_at (Operation' n o parts) = with_values parts (operated o)
+  tree_at (Name' n at x) = read x
+  tree_at (Paren' n e) = go e
+  tree_at (Declare' n x) = store x None
+  tree_at (Local' n at x e) = local_tree x e
+  tree_at (Assign' n at x fixed e) = assign_tree x fixed e
+  tree_at (Compound' n at x fixed o operand) = compound_tree x fixed o operand
+  tree_at (Call' n f returns arguments) = with_values arguments (called (p.functions f))
+  tree_at _ = wrong
+
+  -- the entering of a tree
+  unfoldable pub entered : Tree → Run Value
+  entered t = spend >>= (λ u. choose (p.dead (number t)) wrong (tree_at t))
+
+unfoldable pub eval : Program → ℕ → Tree → Run Value
+eval p zero t = over limit.Steps
+eval p (suc depth) t = entered p (eval p depth) t
+
+-- the meaning of a tree, which the steps left bound
+unfoldable pub meaning : Program → Tree → Run Value
+meaning p t = λ s. eval p s.steps t s

@@ -1,0 +1,17 @@
+//! Laws of the meaning of bodies.
+ghost use Rattle.kt_mean.specs.EvaluationLaws.{DepthIsNoPart, MeaningUnfolds, WholeIsMeaning};
+
+/// The number that bounds the depth of an evaluation is no part of the meaning: any number from the steps left on gives the same.
+pub fn depth_bound_is_no_part()
+    ensures { DepthIsNoPart }
+{}
+
+/// The meaning of a tree is its entering, with the meaning of its parts.
+pub fn meaning_unfolds()
+    ensures { MeaningUnfolds }
+{}
+
+/// A whole run is `main` with the meaning of its trees.
+pub fn whole_is_meaning()
+    ensures { WholeIsMeaning }
+{}
