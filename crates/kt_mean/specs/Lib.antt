@@ -7,4 +7,5 @@ pub mod Laws
 pub mod Frames
 pub mod Evaluation
 pub mod WholeRun
+pub mod Programs
 pub mod EvaluationLaws
