@@ -3,7 +3,7 @@ use Rattle.std.proofs.Common.{◌≡◌, ℕ, suc, ◌+◌, ◌*◌, ◌<◌, le
 use Rattle.kt_tree.specs.declared.token.Span.{Span}
 use Rattle.kt_model.specs.declared.graph.Tag.{Tag}
 use Rattle.kt_model.specs.declared.graph.Known.TheVariants as known
-use Rattle.kt_model.specs.BodyTrees.{Tree, Trees, Operation, Operation', Name', Paren', Not', And', Or', If', Declare', Local', Assign', Compound', Call', Return', Throw', Shut', Empty', First', Piece, Text', Inserted', expr_tree, branch_trees, stmt_tree, piece, seen, seen_trees, inserted_of, listed}
+use Rattle.kt_model.specs.BodyTrees.{Tree, Trees, Operation, Operation', Name', Paren', Not', And', Or', If', Declare', Local', Assign', Compound', Call', Return', Throw', Shut', Empty', First', Piece, Text', Inserted', expr_tree, branch_trees, stmt_tree, piece, seen, seen_trees, inserted_of, listed, named_there}
 use Rattle.kt_tree.specs.declared.ast.body.Expr.{Expr}
 use Rattle.kt_tree.specs.declared.ast.body.Branch.{Branch}
 use Rattle.kt_tree.specs.declared.ast.body.Stmt.{Stmt}
@@ -60,86 +60,86 @@ returns_is : (r : Bool) (o : ℕ) (ns : List Node) (x : Node) → node_at ns o �
 returns_is true o ns x e = ap (λ m. m ∷ []) e
 returns_is false o ns x e = refl
 
-pub walk_operation : {a b d f : Builder} {ts : Trees} {n o r : ℕ} {m : Option ℕ} {c : FlowContext} {ex : Exits} (operation : Operation) → Leaves a b n [] c ex o → WalksTrees b d ts c (place_if (returns_of operation) o) m → StepsTo d f (in_at n c.copy []) c m r → WalksTree a f (Operation' n operation ts) c ex r
+pub walk_operation : {a b d f : Builder} {ts : Trees} {n o r : ℕ} {sp word : Span} {m : Option ℕ} {c : FlowContext} {ex : Exits} (operation : Operation) → Leaves a b n [] c ex o → WalksTrees b d ts c (place_if (returns_of operation) o) m → StepsTo d f (in_at n c.copy []) c m r → WalksTree a f (Operation' (named_there n sp word) operation ts) c ex r
 unfolding nodes edges
 walk_operation {ts = ts} {n = n} {o = o} {c = c} operation p w q = record {
   tree_walked = whole (next (next p w.trees_walked) q) refl
       (λ ns e. let x = returns_is (returns_of operation) o ns (out_at n c.copy []) e.0.0 in cc) (λ ns e. e.1);
 }
 
-pub walk_call : {a b d f : Builder} {ts : Trees} {n o r : ℕ} {m : Option ℕ} {c : FlowContext} {ex : Exits} (g : ℕ) (returns : Bool) → Leaves a b n [] c ex o → WalksTrees b d ts c (place_if returns o) m → StepsTo d f (in_at n c.copy []) c m r → WalksTree a f (Call' n g returns ts) c ex r
+pub walk_call : {a b d f : Builder} {ts : Trees} {n o r : ℕ} {sp word : Span} {m : Option ℕ} {c : FlowContext} {ex : Exits} (g : ℕ) (returns : Bool) → Leaves a b n [] c ex o → WalksTrees b d ts c (place_if returns o) m → StepsTo d f (in_at n c.copy []) c m r → WalksTree a f (Call' (named_there n sp word) g returns ts) c ex r
 unfolding nodes edges
 walk_call {ts = ts} {n = n} {o = o} {c = c} g returns p w q = record {
   tree_walked = whole (next (next p w.trees_walked) q) refl
       (λ ns e. let x = returns_is returns o ns (out_at n c.copy []) e.0.0 in cc) (λ ns e. e.1);
 }
 
-pub walk_name : {a b d : Builder} {n o r : ℕ} {c : FlowContext} {ex : Exits} (at : Span) (x : ℕ) → Leaves a b n (reads x ∷ []) c ex o → StepsTo b d (in_at n c.copy []) c (Some o) r → WalksTree a d (Name' n at x) c ex r
+pub walk_name : {a b d : Builder} {n o r : ℕ} {sp word : Span} {c : FlowContext} {ex : Exits} (at : Span) (x : ℕ) → Leaves a b n (reads x ∷ []) c ex o → StepsTo b d (in_at n c.copy []) c (Some o) r → WalksTree a d (Name' (named_there n sp word) at x) c ex r
 unfolding nodes edges
 walk_name at x p q = record { tree_walked = whole (next p q) refl (λ ns e. cc) (λ ns e. e.1) }
 
-pub walk_paren : {a b d f : Builder} {t : Tree} {n m r : ℕ} {c : FlowContext} {ex inner : Exits} → Encloses a b n c ex inner → WalksTree b d t c inner m → StepsTo d f (in_at n c.copy []) c (Some m) r → WalksTree a f (Paren' n t) c ex r
+pub walk_paren : {a b d f : Builder} {t : Tree} {n m r : ℕ} {sp word : Span} {c : FlowContext} {ex inner : Exits} → Encloses a b n c ex inner → WalksTree b d t c inner m → StepsTo d f (in_at n c.copy []) c (Some m) r → WalksTree a f (Paren' (named_there n sp word) t) c ex r
 unfolding nodes edges
 walk_paren {t = t} {n = n} {c = c} p w q = record {
   tree_walked = whole (next (next p.encloses w.tree_walked) q)
       (ap (λ b. in_at n c.copy [] ∷ (nodes b c.copy t ++ out_at n c.copy [] ∷ [])) p.same_branch) (λ ns e. cc) (λ ns e. e.1);
 }
 
-pub walk_not : {a b d f : Builder} {t : Tree} {n m r : ℕ} {yes' no' : Option ℕ} {c : FlowContext} {ex : Exits} → Tests a b n c ex yes' no' → WalksTree b d t c (exits.Branch no' yes') m → StepsTo d f (in_at n c.copy []) c (Some m) r → WalksTree a f (Not' n t) c ex r
+pub walk_not : {a b d f : Builder} {t : Tree} {n m r : ℕ} {sp word : Span} {yes' no' : Option ℕ} {c : FlowContext} {ex : Exits} → Tests a b n c ex yes' no' → WalksTree b d t c (exits.Branch no' yes') m → StepsTo d f (in_at n c.copy []) c (Some m) r → WalksTree a f (Not' (named_there n sp word) t) c ex r
 unfolding nodes edges
 walk_not p w q = record { tree_walked = whole (next (next p w.tree_walked) q) refl (λ ns e. cc) (λ ns e. e.1) }
 
-pub walk_and : {a b d f g : Builder} {t u : Tree} {n k m r : ℕ} {yes' no' : Option ℕ} {c : FlowContext} {ex : Exits} → Tests a b n c ex yes' no' → WalksTree b d u c (exits.Branch yes' no') k → WalksTree d f t c (exits.Branch (Some k) no') m → StepsTo f g (in_at n c.copy []) c (Some m) r → WalksTree a g (And' n t u) c ex r
+pub walk_and : {a b d f g : Builder} {t u : Tree} {n k m r : ℕ} {sp word : Span} {yes' no' : Option ℕ} {c : FlowContext} {ex : Exits} → Tests a b n c ex yes' no' → WalksTree b d u c (exits.Branch yes' no') k → WalksTree d f t c (exits.Branch (Some k) no') m → StepsTo f g (in_at n c.copy []) c (Some m) r → WalksTree a g (And' (named_there n sp word) t u) c ex r
 unfolding nodes edges
 walk_and p v w q = record { tree_walked = whole (next (next (next p v.tree_walked) w.tree_walked) q) refl (λ ns e. cc) (λ ns e. e.1) }
 
-pub walk_or : {a b d f g : Builder} {t u : Tree} {n k m r : ℕ} {yes' no' : Option ℕ} {c : FlowContext} {ex : Exits} → Tests a b n c ex yes' no' → WalksTree b d u c (exits.Branch yes' no') k → WalksTree d f t c (exits.Branch yes' (Some k)) m → StepsTo f g (in_at n c.copy []) c (Some m) r → WalksTree a g (Or' n t u) c ex r
+pub walk_or : {a b d f g : Builder} {t u : Tree} {n k m r : ℕ} {sp word : Span} {yes' no' : Option ℕ} {c : FlowContext} {ex : Exits} → Tests a b n c ex yes' no' → WalksTree b d u c (exits.Branch yes' no') k → WalksTree d f t c (exits.Branch yes' (Some k)) m → StepsTo f g (in_at n c.copy []) c (Some m) r → WalksTree a g (Or' (named_there n sp word) t u) c ex r
 unfolding nodes edges
 walk_or p v w q = record { tree_walked = whole (next (next (next p v.tree_walked) w.tree_walked) q) refl (λ ns e. cc) (λ ns e. e.1) }
 
-pub walk_if : {a b d f g h : Builder} {t : Tree} {us vs : Trees} {n o m r : ℕ} {x y : Option ℕ} {c : FlowContext} {ex : Exits} → Leaves a b n [] c ex o → WalksTrees b d vs c (Some o) y → WalksTrees d f us c (Some o) x → WalksTree f g t c (exits.Branch x y) m → StepsTo g h (in_at n c.copy []) c (Some m) r → WalksTree a h (If' n t us vs) c ex r
+pub walk_if : {a b d f g h : Builder} {t : Tree} {us vs : Trees} {n o m r : ℕ} {sp word : Span} {x y : Option ℕ} {c : FlowContext} {ex : Exits} → Leaves a b n [] c ex o → WalksTrees b d vs c (Some o) y → WalksTrees d f us c (Some o) x → WalksTree f g t c (exits.Branch x y) m → StepsTo g h (in_at n c.copy []) c (Some m) r → WalksTree a h (If' (named_there n sp word) t us vs) c ex r
 unfolding nodes edges
 walk_if p v u w q = record { tree_walked = whole (next (next (next (next p v.trees_walked) u.trees_walked) w.tree_walked) q) refl (λ ns e. cc) (λ ns e. e.1) }
 
-pub walk_declare : {a b d : Builder} {n o r : ℕ} {c : FlowContext} {ex : Exits} (x : ℕ) → Leaves a b n (declares x ∷ []) c ex o → StepsTo b d (in_at n c.copy []) c (Some o) r → WalksTree a d (Declare' n x) c ex r
+pub walk_declare : {a b d : Builder} {n o r : ℕ} {sp word : Span} {c : FlowContext} {ex : Exits} (x : ℕ) → Leaves a b n (declares x ∷ []) c ex o → StepsTo b d (in_at n c.copy []) c (Some o) r → WalksTree a d (Declare' (named_there n sp word) x) c ex r
 unfolding nodes edges
 walk_declare x p q = record { tree_walked = whole (next p q) refl (λ ns e. cc) (λ ns e. e.1) }
 
-pub walk_local : {a b d f : Builder} {t : Tree} {n o m r : ℕ} {c : FlowContext} {ex : Exits} (at : Span) (x : ℕ) → Leaves a b n (declares x ∷ assigns x (known.Literals []) ∷ []) c ex o → WalksTree b d t c (exits.Then (Some o)) m → StepsTo d f (in_at n c.copy []) c (Some m) r → WalksTree a f (Local' n at x t) c ex r
+pub walk_local : {a b d f : Builder} {t : Tree} {n o m r : ℕ} {sp word : Span} {c : FlowContext} {ex : Exits} (at : Span) (x : ℕ) → Leaves a b n (declares x ∷ assigns x (known.Literals []) ∷ []) c ex o → WalksTree b d t c (exits.Then (Some o)) m → StepsTo d f (in_at n c.copy []) c (Some m) r → WalksTree a f (Local' (named_there n sp word) at x t) c ex r
 unfolding nodes edges
 walk_local at x p w q = record { tree_walked = whole (next (next p w.tree_walked) q) refl (λ ns e. cc) (λ ns e. e.1) }
 
-pub walk_assign : {a b d f : Builder} {t : Tree} {n o m r : ℕ} {c : FlowContext} {ex : Exits} (at : Span) (x : ℕ) (fixed : Bool) → Leaves a b n (assigns x (known.Literals []) ∷ []) c ex o → WalksTree b d t c (exits.Then (Some o)) m → StepsTo d f (in_at n c.copy []) c (Some m) r → WalksTree a f (Assign' n at x fixed t) c ex r
+pub walk_assign : {a b d f : Builder} {t : Tree} {n o m r : ℕ} {sp word : Span} {c : FlowContext} {ex : Exits} (at : Span) (x : ℕ) (fixed : Bool) → Leaves a b n (assigns x (known.Literals []) ∷ []) c ex o → WalksTree b d t c (exits.Then (Some o)) m → StepsTo d f (in_at n c.copy []) c (Some m) r → WalksTree a f (Assign' (named_there n sp word) at x fixed t) c ex r
 unfolding nodes edges
 walk_assign at x fixed p w q = record { tree_walked = whole (next (next p w.tree_walked) q) refl (λ ns e. cc) (λ ns e. e.1) }
 
-pub walk_compound : {a b d f : Builder} {ts : Trees} {n o r : ℕ} {m : Option ℕ} {c : FlowContext} {ex : Exits} (at : Span) (x : ℕ) (fixed : Bool) (operation : Operation) → Leaves a b n (assigns x (known.Literals []) ∷ []) c ex o → WalksTrees b d ts c (Some o) m → StepsTo d f (in_at n c.copy (reads x ∷ [])) c m r → WalksTree a f (Compound' n at x fixed operation ts) c ex r
+pub walk_compound : {a b d f : Builder} {ts : Trees} {n o r : ℕ} {sp word : Span} {m : Option ℕ} {c : FlowContext} {ex : Exits} (at : Span) (x : ℕ) (fixed : Bool) (operation : Operation) → Leaves a b n (assigns x (known.Literals []) ∷ []) c ex o → WalksTrees b d ts c (Some o) m → StepsTo d f (in_at n c.copy (reads x ∷ [])) c m r → WalksTree a f (Compound' (named_there n sp word) at x fixed operation ts) c ex r
 unfolding nodes edges
 walk_compound at x fixed operation p w q = record { tree_walked = whole (next (next p w.trees_walked) q) refl (λ ns e. cc) (λ ns e. e.1) }
 
-pub walk_return : {a b d f : Builder} {ts : Trees} {n o r : ℕ} {m : Option ℕ} {c : FlowContext} {ex : Exits} → StepsTo a b (out_at n c.copy []) c c.returns o → WalksTrees b d ts c (Some o) m → StepsTo d f (in_at n c.copy []) c m r → WalksTree a f (Return' n ts) c ex r
+pub walk_return : {a b d f : Builder} {ts : Trees} {n o r : ℕ} {sp word : Span} {m : Option ℕ} {c : FlowContext} {ex : Exits} → StepsTo a b (out_at n c.copy []) c c.returns o → WalksTrees b d ts c (Some o) m → StepsTo d f (in_at n c.copy []) c m r → WalksTree a f (Return' (named_there n sp word) ts) c ex r
 unfolding nodes edges
 walk_return p w q = record { tree_walked = whole (next (next p w.trees_walked) q) refl (λ ns e. cc) (λ ns e. e.1) }
 
-pub walk_throw : {a b d f : Builder} {t : Tree} {n o m r : ℕ} {c : FlowContext} {ex : Exits} → StepsTo a b (out_at n c.copy []) c None o → WalksTree b d t c (exits.Then (Some o)) m → StepsTo d f (in_at n c.copy []) c (Some m) r → WalksTree a f (Throw' n t) c ex r
+pub walk_throw : {a b d f : Builder} {t : Tree} {n o m r : ℕ} {sp word : Span} {c : FlowContext} {ex : Exits} → StepsTo a b (out_at n c.copy []) c None o → WalksTree b d t c (exits.Then (Some o)) m → StepsTo d f (in_at n c.copy []) c (Some m) r → WalksTree a f (Throw' (named_there n sp word) t) c ex r
 unfolding nodes edges
 walk_throw p w q = record { tree_walked = whole (next (next p w.tree_walked) q) refl (λ ns e. cc) (λ ns e. e.1) }
 
-pub walk_shut : {a b : Builder} {n r : ℕ} {c : FlowContext} {ex : Exits} → StepsTo a b (in_at n c.copy []) c None r → WalksTree a b (Shut' n) c ex r
+pub walk_shut : {a b : Builder} {n r : ℕ} {sp word : Span} {c : FlowContext} {ex : Exits} → StepsTo a b (in_at n c.copy []) c None r → WalksTree a b (Shut' (named_there n sp word)) c ex r
 unfolding nodes edges
 walk_shut q = record { tree_walked = whole q refl (λ ns e. refl) (λ ns e. e) }
 
 -- ---- operations with few parts
 
-pub walk_leaf : {a b d : Builder} {n o r : ℕ} {c : FlowContext} {ex : Exits} → Leaves a b n [] c ex o → StepsTo b d (in_at n c.copy []) c (Some o) r → (operation : Operation) → returns_of operation ≡ true → WalksTree a d (Operation' n operation Empty') c ex r
+pub walk_leaf : {a b d : Builder} {n o r : ℕ} {sp word : Span} {c : FlowContext} {ex : Exits} → Leaves a b n [] c ex o → StepsTo b d (in_at n c.copy []) c (Some o) r → (operation : Operation) → returns_of operation ≡ true → WalksTree a d (Operation' (named_there n sp word) operation Empty') c ex r
 walk_leaf {b = b} {o = o} {c = c} p q operation e =
     walk_operation operation p (same_next (sym (ap (λ t. place_if t o) e)) (walk_empty b c (Some o))) q
 
-pub walk_unary : {a b d f : Builder} {t : Tree} {n o m r : ℕ} {c : FlowContext} {ex : Exits} → Leaves a b n [] c ex o → WalksTree b d t c (exits.Then (Some o)) m → StepsTo d f (in_at n c.copy []) c (Some m) r → (operation : Operation) → returns_of operation ≡ true → WalksTree a f (Operation' n operation (First' t Empty')) c ex r
+pub walk_unary : {a b d f : Builder} {t : Tree} {n o m r : ℕ} {sp word : Span} {c : FlowContext} {ex : Exits} → Leaves a b n [] c ex o → WalksTree b d t c (exits.Then (Some o)) m → StepsTo d f (in_at n c.copy []) c (Some m) r → (operation : Operation) → returns_of operation ≡ true → WalksTree a f (Operation' (named_there n sp word) operation (First' t Empty')) c ex r
 walk_unary {o = o} p w q operation e =
     walk_operation operation p (same_next (sym (ap (λ t. place_if t o) e)) (walk_one w)) q
 
-pub walk_binary : {a b d f g : Builder} {t u : Tree} {n o k m r : ℕ} {c : FlowContext} {ex : Exits} → Leaves a b n [] c ex o → WalksTree b d u c (exits.Then (Some o)) k → WalksTree d f t c (exits.Then (Some k)) m → StepsTo f g (in_at n c.copy []) c (Some m) r → (operation : Operation) → returns_of operation ≡ true → WalksTree a g (Operation' n operation (First' t (First' u Empty'))) c ex r
+pub walk_binary : {a b d f g : Builder} {t u : Tree} {n o k m r : ℕ} {sp word : Span} {c : FlowContext} {ex : Exits} → Leaves a b n [] c ex o → WalksTree b d u c (exits.Then (Some o)) k → WalksTree d f t c (exits.Then (Some k)) m → StepsTo f g (in_at n c.copy []) c (Some m) r → (operation : Operation) → returns_of operation ≡ true → WalksTree a g (Operation' (named_there n sp word) operation (First' t (First' u Empty'))) c ex r
 walk_binary {o = o} p v w q operation e =
     walk_operation operation p (same_next (sym (ap (λ t. place_if t o) e)) (walk_first (walk_one v) w)) q
 

@@ -2,7 +2,7 @@
 ghost use Rattle.std.specs.Prelude.{◌≡◌, ℕ, ◌+◌, List, [], ◌∷◌, map, option_map, Some, None, Bool, false};
 ghost use Rattle.kt_tree.specs.declared.token.Span.{Span};
 ghost use Rattle.kt_model.specs.NameUses.{named_at};
-ghost use Rattle.kt_model.specs.BodyTrees.{Operation, expr_tree, stmt_tree, branch_trees, piece, seen, seen_trees, seen_optional, inserted_of, listed, otherwise, name_span, name_tree, call_tree, local_tree, assign_tree, assigned_tree};
+ghost use Rattle.kt_model.specs.BodyTrees.{Operation, expr_tree, stmt_tree, branch_trees, piece, seen, seen_trees, seen_optional, inserted_of, listed, otherwise, name_span, name_tree, call_tree, local_tree, assign_tree, assigned_tree, named_there, Mark};
 ghost use Rattle.kt_graph.specs.Sizes.{size, all_size, own_size, capped, Adds};
 
 use crate::statements::is_name;
@@ -159,7 +159,7 @@ pub fn arguments(uses: &Uses, arguments: &[Expr]) -> u32
 /// The nodes of a call without a lambda.
 #[cycle(count)]
 pub fn call(uses: &Uses, branching: bool, tree: u32, parts: &[Expr]) -> u32
-    ensures { result ≡ capped (size branching (call_tree (named_at uses.now tree) (seen_trees (map (seen (named_at uses.now)) parts.now)) tree)) }
+    ensures { (at word : Span) → result ≡ capped (size branching (call_tree (named_at uses.now tree) (seen_trees (map (seen (named_at uses.now)) parts.now)) (named_there tree at word))) }
 {
     match uses.named(tree) {
         Named::Function(_, _) => {
@@ -277,7 +277,7 @@ pub fn stmt(uses: &Uses, s: &Stmt) -> u32
 /// The nodes of the declaration of a local.
 #[cycle(count)]
 pub fn local(uses: &Uses, tree: u32, value: &Option<Expr>) -> u32
-    ensures { (at : Span) → result ≡ capped (size false (local_tree (named_at uses.now tree) tree at (option_map (seen (named_at uses.now)) value.now))) }
+    ensures { (at word : Span) → result ≡ capped (size false (local_tree (named_at uses.now tree) (named_there tree at word) (option_map (seen (named_at uses.now)) value.now))) }
 {
     match uses.named(tree) {
         Named::Variable(_, _) => match value {
@@ -300,7 +300,7 @@ pub fn assign(
     assignment: Assignment,
     value: &Option<Expr>,
 ) -> u32
-    ensures { (at : Span) → result ≡ capped (size false (assign_tree (named_at uses.now tree) tree (name_span is_name at) assignment (option_map (seen (named_at uses.now)) value.now))) }
+    ensures { (at word : Span) → result ≡ capped (size false (assign_tree (named_at uses.now tree) tree at (name_span is_name word) assignment (option_map (seen (named_at uses.now)) value.now))) }
 {
     if !is_name {
         return 1;
@@ -318,7 +318,7 @@ pub fn assign(
 /// The nodes of an assignment by `=`.
 #[cycle(count)]
 pub fn plain(uses: &Uses, value: &Option<Expr>) -> u32
-    ensures { (n : ℕ) (at : Span) (x : ℕ) (fixed : Bool) → result ≡ capped (size false (assigned_tree n at x fixed None (option_map (seen (named_at uses.now)) value.now))) }
+    ensures { (m : Mark) (x : ℕ) (fixed : Bool) → result ≡ capped (size false (assigned_tree m x fixed None (option_map (seen (named_at uses.now)) value.now))) }
 {
     match value {
         None => 1,
@@ -332,7 +332,7 @@ pub fn plain(uses: &Uses, value: &Option<Expr>) -> u32
 /// The nodes of an assignment that reads its local first.
 #[cycle(count)]
 pub fn compound(uses: &Uses, value: &Option<Expr>) -> u32
-    ensures { (n : ℕ) (at : Span) (x : ℕ) (fixed : Bool) (o : Operation) → result ≡ capped (size false (assigned_tree n at x fixed (Some o) (option_map (seen (named_at uses.now)) value.now))) }
+    ensures { (m : Mark) (x : ℕ) (fixed : Bool) (o : Operation) → result ≡ capped (size false (assigned_tree m x fixed (Some o) (option_map (seen (named_at uses.now)) value.now))) }
 {
     match value {
         None => 2,

@@ -2,7 +2,7 @@
 ghost use Rattle.std.specs.Prelude.{◌≡◌, IfOk, List, true};
 ghost use Rattle.kt_tree.specs.declared.token.Span.{Span};
 ghost use Rattle.kt_model.specs.NameUses.{named_at};
-ghost use Rattle.kt_model.specs.BodyTrees.{Operation, name_tree, name_span, seen};
+ghost use Rattle.kt_model.specs.BodyTrees.{Operation, name_tree, named_there};
 ghost use Rattle.kt_model.specs.BodyTrees as body;
 ghost use Rattle.kt_model.specs.ControlFlow.{returns_of};
 ghost use Rattle.kt_graph.specs.Building.{WalksTree};
@@ -20,7 +20,7 @@ impl Builder {
         exits: Exits,
         tree: u32,
     ) -> Result<u32, NoMemory>
-        ensures { IfOk result (λ n. WalksTree self.old self.new (body.Shut' tree) context.entry exits n) }
+        ensures { IfOk result (λ n. (at word : Span) → WalksTree self.old self.new (body.Shut' (named_there tree at word)) context.entry exits n) }
     {
         let _exits = exits;
         let n = self.enter(context, tree, None)?;
@@ -34,7 +34,7 @@ impl Builder {
         exits: Exits,
         tree: u32,
     ) -> Result<u32, NoMemory>
-        ensures { IfOk result (λ n. (o : Operation) → returns_of o ≡ true → WalksTree self.old self.new (body.Operation' tree o body.Empty') context.entry exits n) }
+        ensures { IfOk result (λ n. (at word : Span) (o : Operation) → returns_of o ≡ true → WalksTree self.old self.new (body.Operation' (named_there tree at word) o body.Empty') context.entry exits n) }
     {
         let out = self.close(context, exits, tree)?;
         let n = self.enter(context, tree, Some(out))?;

@@ -3,7 +3,7 @@ ghost use Rattle.std.specs.Prelude.{◌≡◌, ℕ, IfOk, List, [], ◌∷◌, m
 ghost use Rattle.kt_tree.specs.declared.token.Span.{Span};
 ghost use Rattle.kt_model.specs.declared.uses.Named.{Named};
 ghost use Rattle.kt_model.specs.NameUses.{named_at};
-ghost use Rattle.kt_model.specs.BodyTrees.{Operation, stmt_tree, listed, seen, name_span, local_tree, assign_tree, assigned_tree};
+ghost use Rattle.kt_model.specs.BodyTrees.{Operation, stmt_tree, listed, seen, name_span, local_tree, assign_tree, assigned_tree, named_there};
 ghost use Rattle.kt_graph.specs.Building.{WalksTree, WalksTrees};
 
 use crate::building::{Builder, Exits, FlowContext};
@@ -103,7 +103,7 @@ impl Builder {
         tree: u32,
         value: &Option<Expr>,
     ) -> Result<u32, NoMemory>
-        ensures { IfOk result (λ n. (at : Span) → WalksTree self.old self.new (local_tree (named_at uses.now tree) tree at (option_map (seen (named_at uses.now)) value.now)) context.entry (Exits.Then next) n) }
+        ensures { IfOk result (λ n. (at word : Span) → WalksTree self.old self.new (local_tree (named_at uses.now tree) (named_there tree at word) (option_map (seen (named_at uses.now)) value.now)) context.entry (Exits.Then next) n) }
     {
         let exits = Exits::Then(next);
         match uses.named(tree) {
@@ -142,7 +142,7 @@ impl Builder {
         assignment: Assignment,
         value: &Option<Expr>,
     ) -> Result<u32, NoMemory>
-        ensures { IfOk result (λ n. (at : Span) → WalksTree self.old self.new (assign_tree (named_at uses.now tree) tree (name_span is_name at) assignment (option_map (seen (named_at uses.now)) value.now)) context.entry (Exits.Then next) n) }
+        ensures { IfOk result (λ n. (at word : Span) → WalksTree self.old self.new (assign_tree (named_at uses.now tree) tree at (name_span is_name word) assignment (option_map (seen (named_at uses.now)) value.now)) context.entry (Exits.Then next) n) }
     {
         if !is_name {
             let n = self.shut(context, Exits::Then(next), tree)?;
@@ -181,7 +181,7 @@ impl Builder {
         local: u32,
         value: &Option<Expr>,
     ) -> Result<u32, NoMemory>
-        ensures { IfOk result (λ n. (at : Span) (fixed : Bool) → WalksTree self.old self.new (assigned_tree tree at local fixed None (option_map (seen (named_at uses.now)) value.now)) context.entry (Exits.Then next) n) }
+        ensures { IfOk result (λ n. (at word : Span) (fixed : Bool) → WalksTree self.old self.new (assigned_tree (named_there tree at word) local fixed None (option_map (seen (named_at uses.now)) value.now)) context.entry (Exits.Then next) n) }
     {
         let exits = Exits::Then(next);
         match value {
@@ -210,7 +210,7 @@ impl Builder {
         local: u32,
         value: &Option<Expr>,
     ) -> Result<u32, NoMemory>
-        ensures { IfOk result (λ n. (at : Span) (fixed : Bool) (o : Operation) → WalksTree self.old self.new (assigned_tree tree at local fixed (Some o) (option_map (seen (named_at uses.now)) value.now)) context.entry (Exits.Then next) n) }
+        ensures { IfOk result (λ n. (at word : Span) (fixed : Bool) (o : Operation) → WalksTree self.old self.new (assigned_tree (named_there tree at word) local fixed (Some o) (option_map (seen (named_at uses.now)) value.now)) context.entry (Exits.Then next) n) }
     {
         let effects = assigns(self.alloc, local)?;
         let out = self.leave(context, Exits::Then(next), tree, effects)?;

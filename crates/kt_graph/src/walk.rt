@@ -2,7 +2,7 @@
 ghost use Rattle.std.specs.Prelude.{◌≡◌, IfOk, List, [], ◌∷◌, map, option_map, true};
 ghost use Rattle.kt_tree.specs.declared.token.Span.{Span};
 ghost use Rattle.kt_model.specs.NameUses.{named_at};
-ghost use Rattle.kt_model.specs.BodyTrees.{expr_tree, branch_trees, piece, seen, seen_trees, inserted_of, call_tree, seen_optional};
+ghost use Rattle.kt_model.specs.BodyTrees.{expr_tree, branch_trees, piece, seen, seen_trees, inserted_of, call_tree, seen_optional, named_there};
 ghost use Rattle.kt_model.specs.BodyTrees as body;
 ghost use Rattle.kt_graph.specs.Building.{WalksTree, WalksTrees};
 
@@ -194,7 +194,7 @@ impl Builder {
         tree: u32,
         arguments: &[Expr],
     ) -> Result<u32, NoMemory>
-        ensures { IfOk result (λ n. WalksTree self.old self.new (call_tree (named_at uses.now tree) (seen_trees (map (seen (named_at uses.now)) arguments.now)) tree) context.entry exits n) }
+        ensures { IfOk result (λ n. (at word : Span) → WalksTree self.old self.new (call_tree (named_at uses.now tree) (seen_trees (map (seen (named_at uses.now)) arguments.now)) (named_there tree at word)) context.entry exits n) }
     {
         match uses.named(tree) {
             Named::Function(_, returns) => {
@@ -268,7 +268,7 @@ impl Builder {
         tree: u32,
         value: &Option<Boxed<Expr>>,
     ) -> Result<u32, NoMemory>
-        ensures { IfOk result (λ n. WalksTree self.old self.new (body.Return' tree (seen_optional (option_map (seen (named_at uses.now)) value.now))) context.entry exits n) }
+        ensures { IfOk result (λ n. (at word : Span) → WalksTree self.old self.new (body.Return' (named_there tree at word) (seen_optional (option_map (seen (named_at uses.now)) value.now))) context.entry exits n) }
     {
         let _exits = exits;
         let out = self.jump(context, tree, context.returns)?;

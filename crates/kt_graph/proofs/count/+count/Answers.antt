@@ -4,7 +4,7 @@ use Rattle.kt_tree.specs.declared.ast.body.ExprKind.TheVariants as e
 use Rattle.kt_model.specs.declared.uses.Named.TheVariants as named
 use Rattle.kt_model.proofs.BodyFolds.{tree_of_kind, kind_int, kind_bool, kind_null, kind_name, kind_template, kind_paren, kind_call, kind_call_with, kind_sign, kind_not, kind_sum, kind_arithmetic, kind_compare, kind_equal, kind_and, kind_or, kind_if_any, kind_return_any, kind_return_at_any, kind_throw, kind_other, stmt_expr, stmt_local_any, stmt_assign_any, stmt_while, stmt_do_while, stmt_for, branch_braced, branch_single, piece_text, piece_inserted, block_list}
 use Rattle.kt_model.specs.NameUses.{named_at}
-use Rattle.kt_model.specs.BodyTrees.{shut, expr_tree, branch_trees, stmt_tree, piece, seen, seen_trees, seen_optional, inserted_of, listed, otherwise, call_tree, local_tree, assign_tree, assigned_tree, First', Empty', Sum', Arithmetic', name_span}
+use Rattle.kt_model.specs.BodyTrees.{shut, expr_tree, branch_trees, stmt_tree, piece, seen, seen_trees, seen_optional, inserted_of, listed, otherwise, call_tree, local_tree, assign_tree, assigned_tree, First', Empty', Sum', Arithmetic', name_span, named_there}
 use Rattle.kt_graph.specs.Sizes.{size, all_size, own_size, capped}
 use Rattle.kt_graph.proofs.Walks.{stmts_more, exprs_more, pieces_more}
 use Rattle.kt_graph.proofs.Counts.{counted, all_counted, count_one, count_two, count_piece, own_alone}
@@ -80,7 +80,7 @@ expr-returns-in_default t c =
 
 pub expr-returns-in-None : goal.expr-returns-in-None
 expr-returns-in-None t c =
-    counted c.args.branching (tree_of_kind (named_at c.args.uses.now) c.args.e.now _ _ (c.in-Call.is ∙ ap (e.Call c.in-Call.callee c.in-Call.arguments) c.in-None.is) (kind_call (named_at c.args.uses.now) c.in-Call.callee c.in-Call.arguments) ∙ ap (λ l. call_tree (named_at c.args.uses.now c.args.e.now.number) (seen_trees (map (seen (named_at c.args.uses.now)) l)) c.args.e.now.number) (sym c.as_slice-in-None.ensures)) c.call.ensures
+    counted c.args.branching (tree_of_kind (named_at c.args.uses.now) c.args.e.now _ _ (c.in-Call.is ∙ ap (e.Call c.in-Call.callee c.in-Call.arguments) c.in-None.is) (kind_call (named_at c.args.uses.now) c.in-Call.callee c.in-Call.arguments) ∙ ap (λ l. call_tree (named_at c.args.uses.now c.args.e.now.number) (seen_trees (map (seen (named_at c.args.uses.now)) l)) (named_there c.args.e.now.number c.args.e.now.span c.in-Call.callee.span)) (sym c.as_slice-in-None.ensures)) (c.call.ensures _ _)
 
 pub expr-returns-in-Some : goal.expr-returns-in-Some
 expr-returns-in-Some t c =
@@ -131,12 +131,12 @@ pieces-loop-i-preserved t c = record {
 }
 
 pub call-returns-in-Function : goal.call-returns-in-Function
-call-returns-in-Function t c =
-    counted c.args.branching (ap (λ m. call_tree m (seen_trees (map (seen (named_at c.args.uses.now)) c.args.parts.now)) c.args.tree) (sym c.in-Function.ensures)) (c.add.ensures (own_size c.args.branching) (all_size (seen_trees (map (seen (named_at c.args.uses.now)) c.args.parts.now))) c.own-own.ensures c.arguments-parts.ensures)
+call-returns-in-Function t c at word =
+    counted c.args.branching (ap (λ m. call_tree m (seen_trees (map (seen (named_at c.args.uses.now)) c.args.parts.now)) (named_there c.args.tree at word)) (sym c.in-Function.ensures)) (c.add.ensures (own_size c.args.branching) (all_size (seen_trees (map (seen (named_at c.args.uses.now)) c.args.parts.now))) c.own-own.ensures c.arguments-parts.ensures)
 
 pub call-returns-in-BuiltIn : goal.call-returns-in-BuiltIn
-call-returns-in-BuiltIn t c =
-    counted c.args.branching (ap (λ m. call_tree m (seen_trees (map (seen (named_at c.args.uses.now)) c.args.parts.now)) c.args.tree) (sym c.in-BuiltIn.ensures)) (c.add-in-BuiltIn.ensures (own_size c.args.branching) (all_size (seen_trees (map (seen (named_at c.args.uses.now)) c.args.parts.now))) c.own-own-in-BuiltIn.ensures c.arguments-parts-in-BuiltIn.ensures)
+call-returns-in-BuiltIn t c at word =
+    counted c.args.branching (ap (λ m. call_tree m (seen_trees (map (seen (named_at c.args.uses.now)) c.args.parts.now)) (named_there c.args.tree at word)) (sym c.in-BuiltIn.ensures)) (c.add-in-BuiltIn.ensures (own_size c.args.branching) (all_size (seen_trees (map (seen (named_at c.args.uses.now)) c.args.parts.now))) c.own-own-in-BuiltIn.ensures c.arguments-parts-in-BuiltIn.ensures)
 
 pub inserted-returns-in-Text : goal.inserted-returns-in-Text
 inserted-returns-in-Text t c =
@@ -176,11 +176,11 @@ stmt-returns-in-Expr t c =
 
 pub stmt-returns-in-Local : goal.stmt-returns-in-Local
 stmt-returns-in-Local t c =
-    counted false (ap (stmt_tree (named_at c.args.uses.now)) c.in-Local.is ∙ stmt_local_any (named_at c.args.uses.now) _ _ _ _ _ _) (c.local.ensures _)
+    counted false (ap (stmt_tree (named_at c.args.uses.now)) c.in-Local.is ∙ stmt_local_any (named_at c.args.uses.now) _ _ _ _ _ _) (c.local.ensures _ _)
 
 pub stmt-returns-in-Assign : goal.stmt-returns-in-Assign
 stmt-returns-in-Assign t c =
-    counted false (ap (stmt_tree (named_at c.args.uses.now)) c.in-Assign.is ∙ stmt_assign_any (named_at c.args.uses.now) _ _ _ _ _ ∙ ap (λ w. assign_tree (named_at c.args.uses.now c.in-Assign.number) c.in-Assign.number w c.in-Assign.assignment (option_map (seen (named_at c.args.uses.now)) c.in-Assign.value)) (c.is_name-is_name.ensures (named_at c.args.uses.now))) (c.assign.ensures _)
+    counted false (ap (stmt_tree (named_at c.args.uses.now)) c.in-Assign.is ∙ stmt_assign_any (named_at c.args.uses.now) _ _ _ _ _ ∙ ap (λ w. assign_tree (named_at c.args.uses.now c.in-Assign.number) c.in-Assign.number _ w c.in-Assign.assignment (option_map (seen (named_at c.args.uses.now)) c.in-Assign.value)) (c.is_name-is_name.ensures (named_at c.args.uses.now))) (c.assign.ensures _ _)
 
 pub stmt-returns-in-While : goal.stmt-returns-in-While
 stmt-returns-in-While t c =
@@ -195,33 +195,33 @@ stmt-returns-in-For t c =
     counted false (ap (stmt_tree (named_at c.args.uses.now)) c.in-For.is ∙ stmt_for (named_at c.args.uses.now) _ _ _ _ _ _ _ _) refl
 
 pub local-returns-in-None : goal.local-returns-in-None
-local-returns-in-None t c at =
-    counted false (ap (λ w. local_tree w c.args.tree at (option_map (seen (named_at c.args.uses.now)) c.args.value.now)) (sym c.in-Variable.ensures) ∙ ap (λ w. local_tree (named.Variable c.in-Variable.field-0 c.in-Variable.field-1) c.args.tree at (option_map (seen (named_at c.args.uses.now)) w)) c.in-None.is) refl
+local-returns-in-None t c at word =
+    counted false (ap (λ w. local_tree w (named_there c.args.tree at word) (option_map (seen (named_at c.args.uses.now)) c.args.value.now)) (sym c.in-Variable.ensures) ∙ ap (λ w. local_tree (named.Variable c.in-Variable.field-0 c.in-Variable.field-1) (named_there c.args.tree at word) (option_map (seen (named_at c.args.uses.now)) w)) c.in-None.is) refl
 
 pub local-returns-in-Some : goal.local-returns-in-Some
-local-returns-in-Some t c at =
-    counted false (ap (λ w. local_tree w c.args.tree at (option_map (seen (named_at c.args.uses.now)) c.args.value.now)) (sym c.in-Variable.ensures) ∙ ap (λ w. local_tree (named.Variable c.in-Variable.field-0 c.in-Variable.field-1) c.args.tree at (option_map (seen (named_at c.args.uses.now)) w)) c.in-Some.is) (c.add.ensures 2 (size false (expr_tree (named_at c.args.uses.now) c.in-Some.e)) refl c.expr-a.ensures)
+local-returns-in-Some t c at word =
+    counted false (ap (λ w. local_tree w (named_there c.args.tree at word) (option_map (seen (named_at c.args.uses.now)) c.args.value.now)) (sym c.in-Variable.ensures) ∙ ap (λ w. local_tree (named.Variable c.in-Variable.field-0 c.in-Variable.field-1) (named_there c.args.tree at word) (option_map (seen (named_at c.args.uses.now)) w)) c.in-Some.is) (c.add.ensures 2 (size false (expr_tree (named_at c.args.uses.now) c.in-Some.e)) refl c.expr-a.ensures)
 
 pub plain-returns-in-None : goal.plain-returns-in-None
-plain-returns-in-None t c n at x fixed =
-    counted false (ap (λ w. assigned_tree n at x fixed None (option_map (seen (named_at c.args.uses.now)) w)) c.in-None.is) refl
+plain-returns-in-None t c m x fixed =
+    counted false (ap (λ w. assigned_tree m x fixed None (option_map (seen (named_at c.args.uses.now)) w)) c.in-None.is) refl
 
 pub plain-returns-in-Some : goal.plain-returns-in-Some
-plain-returns-in-Some t c n at x fixed =
-    counted false (ap (λ w. assigned_tree n at x fixed None (option_map (seen (named_at c.args.uses.now)) w)) c.in-Some.is) (c.add.ensures 2 (size false (expr_tree (named_at c.args.uses.now) c.in-Some.e)) refl c.expr-a.ensures)
+plain-returns-in-Some t c m x fixed =
+    counted false (ap (λ w. assigned_tree m x fixed None (option_map (seen (named_at c.args.uses.now)) w)) c.in-Some.is) (c.add.ensures 2 (size false (expr_tree (named_at c.args.uses.now) c.in-Some.e)) refl c.expr-a.ensures)
 
 pub compound-returns-in-None : goal.compound-returns-in-None
-compound-returns-in-None t c n at x fixed o =
-    counted false (ap (λ w. assigned_tree n at x fixed (Some o) (option_map (seen (named_at c.args.uses.now)) w)) c.in-None.is) refl
+compound-returns-in-None t c m x fixed o =
+    counted false (ap (λ w. assigned_tree m x fixed (Some o) (option_map (seen (named_at c.args.uses.now)) w)) c.in-None.is) refl
 
 pub compound-returns-in-Some : goal.compound-returns-in-Some
-compound-returns-in-Some t c n at x fixed o =
-    counted false (ap (λ w. assigned_tree n at x fixed (Some o) (option_map (seen (named_at c.args.uses.now)) w)) c.in-Some.is) (c.add.ensures 2 (all_size (First' (expr_tree (named_at c.args.uses.now) c.in-Some.e) Empty')) refl (count_one _ c.expr-a.ensures))
+compound-returns-in-Some t c m x fixed o =
+    counted false (ap (λ w. assigned_tree m x fixed (Some o) (option_map (seen (named_at c.args.uses.now)) w)) c.in-Some.is) (c.add.ensures 2 (all_size (First' (expr_tree (named_at c.args.uses.now) c.in-Some.e) Empty')) refl (count_one _ c.expr-a.ensures))
 
 pub assign-returns-in-Sum : goal.assign-returns-in-Sum
-assign-returns-in-Sum t c at =
-    counted false (ap (λ m. assign_tree m c.args.tree (name_span c.args.is_name at) c.args.assignment (option_map (seen (named_at c.args.uses.now)) c.args.value.now)) (sym c.in-Variable.ensures) ∙ ap (λ b. assign_tree (named.Variable c.in-Variable.field-0 c.in-Variable.field-1) c.args.tree (name_span b at) c.args.assignment (option_map (seen (named_at c.args.uses.now)) c.args.value.now)) c.if-not-is_name.false ∙ ap (λ a. assign_tree (named.Variable c.in-Variable.field-0 c.in-Variable.field-1) c.args.tree (Some at) a (option_map (seen (named_at c.args.uses.now)) c.args.value.now)) c.in-Sum.is) (c.compound.ensures c.args.tree at c.in-Variable.field-0 c.in-Variable.field-1 Sum')
+assign-returns-in-Sum t c at word =
+    counted false (ap (λ m. assign_tree m c.args.tree at (name_span c.args.is_name word) c.args.assignment (option_map (seen (named_at c.args.uses.now)) c.args.value.now)) (sym c.in-Variable.ensures) ∙ ap (λ b. assign_tree (named.Variable c.in-Variable.field-0 c.in-Variable.field-1) c.args.tree at (name_span b word) c.args.assignment (option_map (seen (named_at c.args.uses.now)) c.args.value.now)) c.if-not-is_name.false ∙ ap (λ a. assign_tree (named.Variable c.in-Variable.field-0 c.in-Variable.field-1) c.args.tree at (Some word) a (option_map (seen (named_at c.args.uses.now)) c.args.value.now)) c.in-Sum.is) (c.compound.ensures (named_there c.args.tree at word) c.in-Variable.field-0 c.in-Variable.field-1 Sum')
 
 pub assign-returns-in-Arithmetic : goal.assign-returns-in-Arithmetic
-assign-returns-in-Arithmetic t c at =
-    counted false (ap (λ m. assign_tree m c.args.tree (name_span c.args.is_name at) c.args.assignment (option_map (seen (named_at c.args.uses.now)) c.args.value.now)) (sym c.in-Variable.ensures) ∙ ap (λ b. assign_tree (named.Variable c.in-Variable.field-0 c.in-Variable.field-1) c.args.tree (name_span b at) c.args.assignment (option_map (seen (named_at c.args.uses.now)) c.args.value.now)) c.if-not-is_name.false ∙ ap (λ a. assign_tree (named.Variable c.in-Variable.field-0 c.in-Variable.field-1) c.args.tree (Some at) a (option_map (seen (named_at c.args.uses.now)) c.args.value.now)) c.in-Arithmetic.is) (c.compound-in-Arithmetic.ensures c.args.tree at c.in-Variable.field-0 c.in-Variable.field-1 (Arithmetic' c.in-Arithmetic.field-0))
+assign-returns-in-Arithmetic t c at word =
+    counted false (ap (λ m. assign_tree m c.args.tree at (name_span c.args.is_name word) c.args.assignment (option_map (seen (named_at c.args.uses.now)) c.args.value.now)) (sym c.in-Variable.ensures) ∙ ap (λ b. assign_tree (named.Variable c.in-Variable.field-0 c.in-Variable.field-1) c.args.tree at (name_span b word) c.args.assignment (option_map (seen (named_at c.args.uses.now)) c.args.value.now)) c.if-not-is_name.false ∙ ap (λ a. assign_tree (named.Variable c.in-Variable.field-0 c.in-Variable.field-1) c.args.tree at (Some word) a (option_map (seen (named_at c.args.uses.now)) c.args.value.now)) c.in-Arithmetic.is) (c.compound-in-Arithmetic.ensures (named_there c.args.tree at word) c.in-Variable.field-0 c.in-Variable.field-1 (Arithmetic' c.in-Arithmetic.field-0))

@@ -8,21 +8,21 @@ use Rattle.kt_graph.specs.declared.building.Exits.TheVariants as exits
 use Rattle.kt_model.specs.ControlFlow.{bring}
 use Rattle.kt_model.proofs.BodyFolds.{tree_of_kind, kind_int, kind_bool, kind_null, kind_name, kind_template, kind_paren, kind_call, kind_call_with, kind_sign, kind_not, kind_sum, kind_arithmetic, kind_compare, kind_equal, kind_and, kind_or, kind_if_any, kind_return_any, kind_return_at_any, kind_throw, kind_other, stmt_expr, stmt_local_any, stmt_assign_any, stmt_while, stmt_do_while, stmt_for, branch_braced, branch_single, piece_text, piece_inserted, block_list}
 use Rattle.kt_model.specs.NameUses.{named_at}
-use Rattle.kt_model.specs.BodyTrees.{Int', Bool', Null', Template', Sign', Sum', Arithmetic', Compare', Equal', BuiltIn', Return', Compound', texts_of, inserted_of, seen_optional, shut, expr_tree, branch_trees, stmt_tree, piece, seen, seen_trees, listed, otherwise, call_tree, local_tree, assign_tree, assigned_tree, name_span}
+use Rattle.kt_model.specs.BodyTrees.{Int', Bool', Null', Template', Sign', Sum', Arithmetic', Compare', Equal', BuiltIn', Return', Compound', texts_of, inserted_of, seen_optional, shut, expr_tree, branch_trees, stmt_tree, piece, seen, seen_trees, listed, otherwise, call_tree, local_tree, assign_tree, assigned_tree, name_span, named_there}
 use Rattle.kt_graph.proofs.Walks.{same_tree, same_trees, same_next, expr_at, branch_at, walk_operation, walk_unary, walk_binary, walk_paren, walk_not, walk_and, walk_or, walk_if, walk_throw, walk_return, walk_one, walk_first, walk_empty, walk_call, walk_name, walk_local, walk_assign, walk_compound, walk_declare, walk_piece, stmts_more, exprs_more, pieces_more, leaves_effects, steps_effects}
 use Rattle.kt_graph.proofs.building.Builder.+walk.Goals as goal
 
 pub expr-returns-in_ok-n-in-Int : goal.expr-returns-in_ok-n-in-Int
 expr-returns-in_ok-n-in-Int t c =
-    same_tree (tree_of_kind (named_at c.args.uses.now) c.args.e.now _ _ c.in-Int.is (kind_int (named_at c.args.uses.now) c.in-Int.field-0)) (c.in_ok-n-in-Int.ensures (Int' c.in-Int.field-0) refl)
+    same_tree (tree_of_kind (named_at c.args.uses.now) c.args.e.now _ _ c.in-Int.is (kind_int (named_at c.args.uses.now) c.in-Int.field-0)) (c.in_ok-n-in-Int.ensures _ _ (Int' c.in-Int.field-0) refl)
 
 pub expr-returns-in_ok-n-in-Bool : goal.expr-returns-in_ok-n-in-Bool
 expr-returns-in_ok-n-in-Bool t c =
-    same_tree (tree_of_kind (named_at c.args.uses.now) c.args.e.now _ _ c.in-Bool.is (kind_bool (named_at c.args.uses.now) c.in-Bool.field-0)) (c.in_ok-n-in-Bool.ensures (Bool' c.in-Bool.field-0) refl)
+    same_tree (tree_of_kind (named_at c.args.uses.now) c.args.e.now _ _ c.in-Bool.is (kind_bool (named_at c.args.uses.now) c.in-Bool.field-0)) (c.in_ok-n-in-Bool.ensures _ _ (Bool' c.in-Bool.field-0) refl)
 
 pub expr-returns-in_ok-n-in-Null : goal.expr-returns-in_ok-n-in-Null
 expr-returns-in_ok-n-in-Null t c =
-    same_tree (tree_of_kind (named_at c.args.uses.now) c.args.e.now _ _ c.in-Null.is (kind_null (named_at c.args.uses.now))) (c.in_ok-n-in-Null.ensures Null' refl)
+    same_tree (tree_of_kind (named_at c.args.uses.now) c.args.e.now _ _ c.in-Null.is (kind_null (named_at c.args.uses.now))) (c.in_ok-n-in-Null.ensures _ _ Null' refl)
 
 pub expr-returns-in_ok-n-in-Name : goal.expr-returns-in_ok-n-in-Name
 expr-returns-in_ok-n-in-Name t c =
@@ -78,7 +78,7 @@ expr-returns-in_ok-n-in-Throw t c =
 
 pub expr-returns-in_ok-n-in_default : goal.expr-returns-in_ok-n-in_default
 expr-returns-in_ok-n-in_default t c =
-    same_tree (tree_of_kind (named_at c.args.uses.now) c.args.e.now c.args.e.now.kind shut refl (kind_other (named_at c.args.uses.now) c.args.e.now.kind c.in_default.not-Int c.in_default.not-Bool c.in_default.not-Null c.in_default.not-Name c.in_default.not-Template c.in_default.not-Paren c.in_default.not-Call c.in_default.not-Sign c.in_default.not-Not c.in_default.not-Sum c.in_default.not-Arithmetic c.in_default.not-Compare c.in_default.not-Equal c.in_default.not-And c.in_default.not-Or c.in_default.not-If c.in_default.not-Return c.in_default.not-Throw)) c.in_ok-n-in_default.ensures
+    same_tree (tree_of_kind (named_at c.args.uses.now) c.args.e.now c.args.e.now.kind shut refl (kind_other (named_at c.args.uses.now) c.args.e.now.kind c.in_default.not-Int c.in_default.not-Bool c.in_default.not-Null c.in_default.not-Name c.in_default.not-Template c.in_default.not-Paren c.in_default.not-Call c.in_default.not-Sign c.in_default.not-Not c.in_default.not-Sum c.in_default.not-Arithmetic c.in_default.not-Compare c.in_default.not-Equal c.in_default.not-And c.in_default.not-Or c.in_default.not-If c.in_default.not-Return c.in_default.not-Throw)) (c.in_ok-n-in_default.ensures _ _)
 
 pub statements-loop-i-init : goal.statements-loop-i-init
 statements-loop-i-init t c = record {
@@ -117,20 +117,20 @@ pieces-loop-i-preserved t c = record {
 }
 
 pub call-returns-in_ok-n-in-Function : goal.call-returns-in_ok-n-in-Function
-call-returns-in_ok-n-in-Function t c =
-    same_tree (ap (λ m. call_tree m (seen_trees (map (seen (named_at c.args.uses.now)) c.args.arguments.now)) c.args.tree) (sym c.in-Function.ensures)) (walk_call c.in-Function.field-0 c.in-Function.returns c.in_ok-out-in-Function.ensures (same_next c.place_if-next.ensures c.in_ok-first-in-Function.ensures) c.in_ok-n-in-Function.ensures)
+call-returns-in_ok-n-in-Function t c at word =
+    same_tree (ap (λ m. call_tree m (seen_trees (map (seen (named_at c.args.uses.now)) c.args.arguments.now)) (named_there c.args.tree at word)) (sym c.in-Function.ensures)) (walk_call c.in-Function.field-0 c.in-Function.returns c.in_ok-out-in-Function.ensures (same_next c.place_if-next.ensures c.in_ok-first-in-Function.ensures) c.in_ok-n-in-Function.ensures)
 
 pub call-returns-in_ok-n-in-BuiltIn : goal.call-returns-in_ok-n-in-BuiltIn
-call-returns-in_ok-n-in-BuiltIn t c =
-    same_tree (ap (λ m. call_tree m (seen_trees (map (seen (named_at c.args.uses.now)) c.args.arguments.now)) c.args.tree) (sym c.in-BuiltIn.ensures)) (walk_operation (BuiltIn' c.in-BuiltIn.field-0 c.in-BuiltIn.returns) c.in_ok-out-in-BuiltIn.ensures (same_next c.place_if-next-in-BuiltIn.ensures c.in_ok-first-in-BuiltIn.ensures) c.in_ok-n-in-BuiltIn.ensures)
+call-returns-in_ok-n-in-BuiltIn t c at word =
+    same_tree (ap (λ m. call_tree m (seen_trees (map (seen (named_at c.args.uses.now)) c.args.arguments.now)) (named_there c.args.tree at word)) (sym c.in-BuiltIn.ensures)) (walk_operation (BuiltIn' c.in-BuiltIn.field-0 c.in-BuiltIn.returns) c.in_ok-out-in-BuiltIn.ensures (same_next c.place_if-next-in-BuiltIn.ensures c.in_ok-first-in-BuiltIn.ensures) c.in_ok-n-in-BuiltIn.ensures)
 
 pub returned-returns-in_ok-n-in-None : goal.returned-returns-in_ok-n-in-None
-returned-returns-in_ok-n-in-None t c =
-    same_tree (ap (λ w. Return' c.args.tree (seen_optional (option_map (seen (named_at c.args.uses.now)) w))) c.in-None.is) (walk_return c.in_ok-out.ensures (walk_empty c.jump.new.self c.args.context (Some c.in_ok-out.out)) c.in_ok-n-in-None.ensures)
+returned-returns-in_ok-n-in-None t c at word =
+    same_tree (ap (λ w. Return' (named_there c.args.tree at word) (seen_optional (option_map (seen (named_at c.args.uses.now)) w))) c.in-None.is) (walk_return c.in_ok-out.ensures (walk_empty c.jump.new.self c.args.context (Some c.in_ok-out.out)) c.in_ok-n-in-None.ensures)
 
 pub returned-returns-in_ok-n-in-Some : goal.returned-returns-in_ok-n-in-Some
-returned-returns-in_ok-n-in-Some t c =
-    same_tree (ap (λ w. Return' c.args.tree (seen_optional (option_map (seen (named_at c.args.uses.now)) w))) c.in-Some.is) (walk_return c.in_ok-out.ensures (walk_one (expr_at (named_at c.args.uses.now) c.get.ensures c.in_ok-a-in-Some.ensures)) c.in_ok-n-in-Some.ensures)
+returned-returns-in_ok-n-in-Some t c at word =
+    same_tree (ap (λ w. Return' (named_there c.args.tree at word) (seen_optional (option_map (seen (named_at c.args.uses.now)) w))) c.in-Some.is) (walk_return c.in_ok-out.ensures (walk_one (expr_at (named_at c.args.uses.now) c.get.ensures c.in_ok-a-in-Some.ensures)) c.in_ok-n-in-Some.ensures)
 
 pub branch-returns-in_ok-n-in-Braced : goal.branch-returns-in_ok-n-in-Braced
 branch-returns-in_ok-n-in-Braced t c =
@@ -154,43 +154,43 @@ stmt-returns-in_ok-n-in-Expr t c =
 
 pub stmt-returns-in_ok-n-in-Local : goal.stmt-returns-in_ok-n-in-Local
 stmt-returns-in_ok-n-in-Local t c =
-    same_tree (ap (stmt_tree (named_at c.args.uses.now)) c.in-Local.is ∙ stmt_local_any (named_at c.args.uses.now) _ _ _ _ _ _) (c.in_ok-n-in-Local.ensures _)
+    same_tree (ap (stmt_tree (named_at c.args.uses.now)) c.in-Local.is ∙ stmt_local_any (named_at c.args.uses.now) _ _ _ _ _ _) (c.in_ok-n-in-Local.ensures _ _)
 
 pub stmt-returns-in_ok-n-in-Assign : goal.stmt-returns-in_ok-n-in-Assign
 stmt-returns-in_ok-n-in-Assign t c =
-    same_tree (ap (stmt_tree (named_at c.args.uses.now)) c.in-Assign.is ∙ stmt_assign_any (named_at c.args.uses.now) _ _ _ _ _ ∙ ap (λ w. assign_tree (named_at c.args.uses.now c.in-Assign.number) c.in-Assign.number w c.in-Assign.assignment (option_map (seen (named_at c.args.uses.now)) c.in-Assign.value)) (c.is_name-is_name.ensures (named_at c.args.uses.now))) (c.in_ok-n-in-Assign.ensures _)
+    same_tree (ap (stmt_tree (named_at c.args.uses.now)) c.in-Assign.is ∙ stmt_assign_any (named_at c.args.uses.now) _ _ _ _ _ ∙ ap (λ w. assign_tree (named_at c.args.uses.now c.in-Assign.number) c.in-Assign.number _ w c.in-Assign.assignment (option_map (seen (named_at c.args.uses.now)) c.in-Assign.value)) (c.is_name-is_name.ensures (named_at c.args.uses.now))) (c.in_ok-n-in-Assign.ensures _ _)
 
 pub stmt-returns-in_ok-n-in-While : goal.stmt-returns-in_ok-n-in-While
 stmt-returns-in_ok-n-in-While t c =
-    same_tree (ap (stmt_tree (named_at c.args.uses.now)) c.in-While.is ∙ stmt_while (named_at c.args.uses.now) _ _ _ _) c.in_ok-n-in-While.ensures
+    same_tree (ap (stmt_tree (named_at c.args.uses.now)) c.in-While.is ∙ stmt_while (named_at c.args.uses.now) _ _ _ _) (c.in_ok-n-in-While.ensures _ _)
 
 pub stmt-returns-in_ok-n-in-DoWhile : goal.stmt-returns-in_ok-n-in-DoWhile
 stmt-returns-in_ok-n-in-DoWhile t c =
-    same_tree (ap (stmt_tree (named_at c.args.uses.now)) c.in-DoWhile.is ∙ stmt_do_while (named_at c.args.uses.now) _ _ _ _) c.in_ok-n-in-DoWhile.ensures
+    same_tree (ap (stmt_tree (named_at c.args.uses.now)) c.in-DoWhile.is ∙ stmt_do_while (named_at c.args.uses.now) _ _ _ _) (c.in_ok-n-in-DoWhile.ensures _ _)
 
 pub stmt-returns-in_ok-n-in-For : goal.stmt-returns-in_ok-n-in-For
 stmt-returns-in_ok-n-in-For t c =
-    same_tree (ap (stmt_tree (named_at c.args.uses.now)) c.in-For.is ∙ stmt_for (named_at c.args.uses.now) _ _ _ _ _ _ _ _) c.in_ok-n-in-For.ensures
+    same_tree (ap (stmt_tree (named_at c.args.uses.now)) c.in-For.is ∙ stmt_for (named_at c.args.uses.now) _ _ _ _ _ _ _ _) (c.in_ok-n-in-For.ensures _ _)
 
 pub compound-returns-in_ok-n-in-Some : goal.compound-returns-in_ok-n-in-Some
-compound-returns-in_ok-n-in-Some t c at fixed o =
-    same_tree (ap (λ w. Compound' c.args.tree at c.args.local fixed o (seen_optional (option_map (seen (named_at c.args.uses.now)) w))) c.in-Some.is) (walk_compound at c.args.local fixed o (leaves_effects _ _ _ _ _ _ c.args.context (exits.Then c.args.next) c.in_ok-effects.ensures c.in_ok-out.ensures) (walk_one c.in_ok-a-in-Some.ensures) (steps_effects _ _ _ _ tag.In _ _ c.args.context (Some c.in_ok-a-in-Some.a) c.in_ok-old.ensures c.in_ok-n-in-Some.ensures))
+compound-returns-in_ok-n-in-Some t c at word fixed o =
+    same_tree (ap (λ w. Compound' (named_there c.args.tree at word) word c.args.local fixed o (seen_optional (option_map (seen (named_at c.args.uses.now)) w))) c.in-Some.is) (walk_compound word c.args.local fixed o (leaves_effects _ _ _ _ _ _ c.args.context (exits.Then c.args.next) c.in_ok-effects.ensures c.in_ok-out.ensures) (walk_one c.in_ok-a-in-Some.ensures) (steps_effects _ _ _ _ tag.In _ _ c.args.context (Some c.in_ok-a-in-Some.a) c.in_ok-old.ensures c.in_ok-n-in-Some.ensures))
 
 pub compound-returns-in_ok-n-in-None : goal.compound-returns-in_ok-n-in-None
-compound-returns-in_ok-n-in-None t c at fixed o =
-    same_tree (ap (λ w. Compound' c.args.tree at c.args.local fixed o (seen_optional (option_map (seen (named_at c.args.uses.now)) w))) c.in-None.is) (walk_compound at c.args.local fixed o (leaves_effects _ _ _ _ _ _ c.args.context (exits.Then c.args.next) c.in_ok-effects.ensures c.in_ok-out.ensures) (walk_empty c.leave.new.self c.args.context (Some c.in_ok-out.out)) (steps_effects _ _ _ _ tag.In _ _ c.args.context (Some c.in_ok-out.out) c.in_ok-old.ensures c.in_ok-n-in-None.ensures))
+compound-returns-in_ok-n-in-None t c at word fixed o =
+    same_tree (ap (λ w. Compound' (named_there c.args.tree at word) word c.args.local fixed o (seen_optional (option_map (seen (named_at c.args.uses.now)) w))) c.in-None.is) (walk_compound word c.args.local fixed o (leaves_effects _ _ _ _ _ _ c.args.context (exits.Then c.args.next) c.in_ok-effects.ensures c.in_ok-out.ensures) (walk_empty c.leave.new.self c.args.context (Some c.in_ok-out.out)) (steps_effects _ _ _ _ tag.In _ _ c.args.context (Some c.in_ok-out.out) c.in_ok-old.ensures c.in_ok-n-in-None.ensures))
 
 pub plain-returns-in_ok-n-in-Some : goal.plain-returns-in_ok-n-in-Some
-plain-returns-in_ok-n-in-Some t c at fixed =
-    same_tree (ap (λ w. assigned_tree c.args.tree at c.args.local fixed None (option_map (seen (named_at c.args.uses.now)) w)) c.in-Some.is) (walk_assign at c.args.local fixed (leaves_effects _ _ _ _ _ _ c.args.context (exits.Then c.args.next) c.in_ok-effects-in-Some.ensures c.in_ok-out-in-Some.ensures) c.in_ok-a-in-Some.ensures c.in_ok-n-in-Some.ensures)
+plain-returns-in_ok-n-in-Some t c at word fixed =
+    same_tree (ap (λ w. assigned_tree (named_there c.args.tree at word) c.args.local fixed None (option_map (seen (named_at c.args.uses.now)) w)) c.in-Some.is) (walk_assign word c.args.local fixed (leaves_effects _ _ _ _ _ _ c.args.context (exits.Then c.args.next) c.in_ok-effects-in-Some.ensures c.in_ok-out-in-Some.ensures) c.in_ok-a-in-Some.ensures c.in_ok-n-in-Some.ensures)
 
 pub local-returns-in_ok-n-in-None : goal.local-returns-in_ok-n-in-None
-local-returns-in_ok-n-in-None t c at =
-    same_tree (ap (λ w. local_tree w c.args.tree at (option_map (seen (named_at c.args.uses.now)) c.args.value.now)) (sym c.in-Variable.ensures) ∙ ap (λ w. local_tree (named.Variable c.in-Variable.local c.in-Variable.field-1) c.args.tree at (option_map (seen (named_at c.args.uses.now)) w)) c.in-None.is) (walk_declare c.in-Variable.local (leaves_effects _ _ _ _ _ _ c.args.context (exits.Then c.args.next) c.in_ok-effects-in-None.ensures c.in_ok-out-in-None.ensures) c.in_ok-n-in-None.ensures)
+local-returns-in_ok-n-in-None t c at word =
+    same_tree (ap (λ w. local_tree w (named_there c.args.tree at word) (option_map (seen (named_at c.args.uses.now)) c.args.value.now)) (sym c.in-Variable.ensures) ∙ ap (λ w. local_tree (named.Variable c.in-Variable.local c.in-Variable.field-1) (named_there c.args.tree at word) (option_map (seen (named_at c.args.uses.now)) w)) c.in-None.is) (walk_declare c.in-Variable.local (leaves_effects _ _ _ _ _ _ c.args.context (exits.Then c.args.next) c.in_ok-effects-in-None.ensures c.in_ok-out-in-None.ensures) c.in_ok-n-in-None.ensures)
 
 pub local-returns-in_ok-n-in-Some : goal.local-returns-in_ok-n-in-Some
-local-returns-in_ok-n-in-Some t c at =
-    same_tree (ap (λ w. local_tree w c.args.tree at (option_map (seen (named_at c.args.uses.now)) c.args.value.now)) (sym c.in-Variable.ensures) ∙ ap (λ w. local_tree (named.Variable c.in-Variable.local c.in-Variable.field-1) c.args.tree at (option_map (seen (named_at c.args.uses.now)) w)) c.in-Some.is) (walk_local at c.in-Variable.local (leaves_effects _ _ _ _ _ _ c.args.context (exits.Then c.args.next) (c.in_ok-bring-in-Some.ensures ∙ ap (λ l. l ++ bring c.in-Variable.local) c.new-effects.ensures) c.in_ok-out-in-Some.ensures) c.in_ok-a-in-Some.ensures c.in_ok-n-in-Some.ensures)
+local-returns-in_ok-n-in-Some t c at word =
+    same_tree (ap (λ w. local_tree w (named_there c.args.tree at word) (option_map (seen (named_at c.args.uses.now)) c.args.value.now)) (sym c.in-Variable.ensures) ∙ ap (λ w. local_tree (named.Variable c.in-Variable.local c.in-Variable.field-1) (named_there c.args.tree at word) (option_map (seen (named_at c.args.uses.now)) w)) c.in-Some.is) (walk_local word c.in-Variable.local (leaves_effects _ _ _ _ _ _ c.args.context (exits.Then c.args.next) (c.in_ok-bring-in-Some.ensures ∙ ap (λ l. l ++ bring c.in-Variable.local) c.new-effects.ensures) c.in_ok-out-in-Some.ensures) c.in_ok-a-in-Some.ensures c.in_ok-n-in-Some.ensures)
 
 pub otherwise-returns-in-None : goal.otherwise-returns-in-None
 otherwise-returns-in-None t c =
@@ -202,16 +202,16 @@ piece-returns-in-Text t c =
 
 pub expr-returns-in_ok-n-in-None : goal.expr-returns-in_ok-n-in-None
 expr-returns-in_ok-n-in-None t c =
-    same_tree (tree_of_kind (named_at c.args.uses.now) c.args.e.now _ _ (c.in-Call.is ∙ ap (e.Call c.in-Call.callee c.in-Call.arguments) c.in-None.is) (kind_call (named_at c.args.uses.now) c.in-Call.callee c.in-Call.arguments)) (same_tree (ap (λ l. call_tree (named_at c.args.uses.now c.args.e.now.number) (seen_trees (map (seen (named_at c.args.uses.now)) l)) c.args.e.now.number) (sym c.as_slice-in-None.ensures)) c.in_ok-n-in-None.ensures)
+    same_tree (tree_of_kind (named_at c.args.uses.now) c.args.e.now _ _ (c.in-Call.is ∙ ap (e.Call c.in-Call.callee c.in-Call.arguments) c.in-None.is) (kind_call (named_at c.args.uses.now) c.in-Call.callee c.in-Call.arguments)) (same_tree (ap (λ l. call_tree (named_at c.args.uses.now c.args.e.now.number) (seen_trees (map (seen (named_at c.args.uses.now)) l)) (named_there c.args.e.now.number c.args.e.now.span c.in-Call.callee.span)) (sym c.as_slice-in-None.ensures)) (c.in_ok-n-in-None.ensures _ _)))
 
 pub expr-returns-in_ok-n-in-Some : goal.expr-returns-in_ok-n-in-Some
 expr-returns-in_ok-n-in-Some t c =
-    same_tree (tree_of_kind (named_at c.args.uses.now) c.args.e.now _ _ (c.in-Call.is ∙ ap (e.Call c.in-Call.callee c.in-Call.arguments) c.in-Some.is) (kind_call_with (named_at c.args.uses.now) c.in-Call.callee c.in-Call.arguments _)) c.in_ok-n-in-Some.ensures
+    same_tree (tree_of_kind (named_at c.args.uses.now) c.args.e.now _ _ (c.in-Call.is ∙ ap (e.Call c.in-Call.callee c.in-Call.arguments) c.in-Some.is) (kind_call_with (named_at c.args.uses.now) c.in-Call.callee c.in-Call.arguments _)) (c.in_ok-n-in-Some.ensures _ _)
 
 pub expr-returns-in_ok-n-in-None-label : goal.expr-returns-in_ok-n-in-None-label
 expr-returns-in_ok-n-in-None-label t c =
-    same_tree (tree_of_kind (named_at c.args.uses.now) c.args.e.now _ _ (c.in-Return.is ∙ ap (λ l. e.Return l c.in-Return.value) c.in-None-label.is) (kind_return_any (named_at c.args.uses.now) c.in-Return.value)) c.in_ok-n-in-None-label.ensures
+    same_tree (tree_of_kind (named_at c.args.uses.now) c.args.e.now _ _ (c.in-Return.is ∙ ap (λ l. e.Return l c.in-Return.value) c.in-None-label.is) (kind_return_any (named_at c.args.uses.now) c.in-Return.value)) (c.in_ok-n-in-None-label.ensures _ _)
 
 pub expr-returns-in_ok-n-in-Some-label : goal.expr-returns-in_ok-n-in-Some-label
 expr-returns-in_ok-n-in-Some-label t c =
-    same_tree (tree_of_kind (named_at c.args.uses.now) c.args.e.now _ _ (c.in-Return.is ∙ ap (λ l. e.Return l c.in-Return.value) c.in-Some-label.is) (kind_return_at_any (named_at c.args.uses.now) _ c.in-Return.value)) c.in_ok-n-in-Some-label.ensures
+    same_tree (tree_of_kind (named_at c.args.uses.now) c.args.e.now _ _ (c.in-Return.is ∙ ap (λ l. e.Return l c.in-Return.value) c.in-Some-label.is) (kind_return_at_any (named_at c.args.uses.now) _ c.in-Return.value)) (c.in_ok-n-in-Some-label.ensures _ _)
