@@ -15,7 +15,7 @@ use Rattle.kt_tree.specs.declared.grammar.production.Row.{Row}
 use Rattle.kt_tree.specs.declared.grammar.production.TheConstants.{OPEN}
 use Rattle.kt_tree.specs.Classes.{same_terminal, is_modifier, is_identifier, begins_expression}
 use Rattle.kt_tree.specs.Grammar.{rows, row, row_in, begins, allows}
-use Rattle.kt_grammar.specs.Lookup.{with_first, opened, row_for, or_else, is_word, by_firsts}
+use Rattle.kt_grammar.specs.Lookup.{with_first, opened, row_for, is_word}
 
 -- all terminals, in order
 terminals : List Terminal
@@ -92,6 +92,11 @@ first_fit (r ∷ rs) c =
     step false true e = rw e refl
     step false false e = refl
 
+-- the first option that holds something
+abbrev or_else : Option Production → Option Production → Option Production
+or_else (Some p) q = Some p
+or_else None q = q
+
 listed_first : (b : Bool) (o : Option Row) (c : Class) (rs : List Row) → first_open c (listed b o ++ rs) ≡ or_else (cond b (opened o c) None) (first_open c rs)
 listed_first false o c rs = refl
 listed_first true None c rs = refl
@@ -109,6 +114,14 @@ listed_last true (Some r) c = refl
 -- the same of the row that begins so
 one_first : (b : Bool) (nt : Nonterminal) (f : First) (c : Class) (rs : List Row) → first_open c (listed b (with_first (rows nt) f) ++ rs) ≡ or_else (row_for b nt f c) (first_open c rs)
 one_first b nt f c rs = listed_first b (with_first (rows nt) f) c rs
+
+-- a row that names the terminal comes before one for modifiers, for expressions, and for any identifier
+abbrev by_firsts : Nonterminal → Class → Option Production
+by_firsts nt c =
+    or_else (row_for true nt (first.Just c.terminal) c)
+    (or_else (row_for (is_modifier c.terminal) nt first.Modifier c)
+    (or_else (row_for (begins_expression c.terminal) nt first.Expression c)
+    (row_for (is_word c.terminal) nt (first.Just t.Id) c)))
 
 by_list : (nt : Nonterminal) (c : Class) → first_open c (candidates (rows nt) c.terminal) ≡ by_firsts nt c
 by_list nt c =

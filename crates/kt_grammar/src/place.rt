@@ -14,7 +14,7 @@ pub struct Place {
     pub first: First,
 }
 
-/// The number of a first.
+/// What a row begins with, as a number: first modifiers, then expressions, then the terminals in order.
 fn number(first: First) -> u8
     ensures { result ≡ rank first }
 {
