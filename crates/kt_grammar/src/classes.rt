@@ -2,7 +2,9 @@
 ghost use Rattle.std.specs.Prelude.{◌≡◌, ◌≤◌, ◌+◌, length, slice_get};
 ghost use Rattle.std.specs.Option.{option_copied};
 ghost use Rattle.kt_tree.specs.Classes as spec;
+ghost use Rattle.kt_grammar.specs.Lookup as lookup;
 
+use crate::roles::{is_identifier, is_modifier, wants_brace, wants_round};
 use crate::words::word_of;
 use kt_tree::grammar::{Class, Terminal as T};
 use kt_tree::{Kind, Names, Token, Tokens};
@@ -37,81 +39,26 @@ fn identifier_of(names: &Names, number: u32) -> T
     }
 }
 
+/// A `match` that gives each kind of token that is named as its terminal that terminal.
+macro_rules! named_alike {
+    ($kind:expr, [$($alike:ident)*], $($other:pat => $terminal:expr,)*) => {
+        match $kind {
+            $(Kind::$alike => T::$alike,)*
+            $($other => $terminal,)*
+        }
+    };
+}
+
 fn terminal_of(names: &Names, kind: &Kind) -> T
     ensures { result ≡ spec.terminal_of names.now kind.now }
 {
-    match kind {
-        Kind::As => T::As,
-        Kind::Break => T::Break,
-        Kind::Class => T::Class,
-        Kind::Continue => T::Continue,
-        Kind::Do => T::Do,
-        Kind::Else => T::Else,
-        Kind::False => T::False,
-        Kind::For => T::For,
-        Kind::Fun => T::Fun,
-        Kind::If => T::If,
-        Kind::In => T::In,
-        Kind::Interface => T::Interface,
-        Kind::Is => T::Is,
-        Kind::Null => T::Null,
-        Kind::Object => T::Object,
-        Kind::Package => T::Package,
-        Kind::Return => T::Return,
-        Kind::Super => T::Super,
-        Kind::This => T::This,
-        Kind::Throw => T::Throw,
-        Kind::True => T::True,
-        Kind::Try => T::Try,
-        Kind::Typealias => T::Typealias,
-        Kind::Typeof => T::Typeof,
-        Kind::Val => T::Val,
-        Kind::Var => T::Var,
-        Kind::When => T::When,
-        Kind::While => T::While,
-        Kind::AsSafe => T::AsSafe,
-        Kind::NotIs => T::NotIs,
-        Kind::NotIn => T::NotIn,
-        Kind::OpenRound => T::OpenRound,
-        Kind::CloseRound => T::CloseRound,
-        Kind::OpenBrace => T::OpenBrace,
-        Kind::CloseBrace => T::CloseBrace,
-        Kind::OpenSquare => T::OpenSquare,
-        Kind::CloseSquare => T::CloseSquare,
-        Kind::Dot => T::Dot,
-        Kind::Comma => T::Comma,
-        Kind::Semicolon => T::Semicolon,
-        Kind::Colon => T::Colon,
-        Kind::ColonColon => T::ColonColon,
-        Kind::Assign => T::Assign,
-        Kind::Equal => T::Equal,
-        Kind::NotEqual => T::NotEqual,
-        Kind::Less => T::Less,
-        Kind::Greater => T::Greater,
-        Kind::LessEqual => T::LessEqual,
-        Kind::GreaterEqual => T::GreaterEqual,
-        Kind::Plus => T::Plus,
-        Kind::Minus => T::Minus,
-        Kind::Star => T::Star,
-        Kind::Slash => T::Slash,
-        Kind::Percent => T::Percent,
-        Kind::Not => T::Not,
-        Kind::NotNull => T::NotNull,
-        Kind::And => T::And,
-        Kind::Or => T::Or,
-        Kind::Question => T::Question,
-        Kind::SafeDot => T::SafeDot,
-        Kind::Elvis => T::Elvis,
-        Kind::Range => T::Range,
-        Kind::Arrow => T::Arrow,
-        Kind::PlusAssign => T::PlusAssign,
-        Kind::MinusAssign => T::MinusAssign,
-        Kind::StarAssign => T::StarAssign,
-        Kind::SlashAssign => T::SlashAssign,
-        Kind::PercentAssign => T::PercentAssign,
-        Kind::PlusPlus => T::PlusPlus,
-        Kind::MinusMinus => T::MinusMinus,
-        Kind::At => T::At,
+    named_alike!(kind, [
+        As Break Class Continue Do Else False For Fun If In Interface Is Null Object Package Return Super This
+        Throw True Try Typealias Typeof Val Var When While AsSafe NotIs NotIn OpenRound CloseRound OpenBrace
+        CloseBrace OpenSquare CloseSquare Dot Comma Semicolon Colon ColonColon Assign Equal NotEqual Less
+        Greater LessEqual GreaterEqual Plus Minus Star Slash Percent Not NotNull And Or Question SafeDot Elvis
+        Range Arrow PlusAssign MinusAssign StarAssign SlashAssign PercentAssign PlusPlus MinusMinus At
+    ],
         Kind::Id(number) => identifier_of(names, *number),
         Kind::ReturnAt(_) => T::ReturnAt,
         Kind::Int(_) => T::Int,
@@ -122,7 +69,7 @@ fn terminal_of(names: &Names, kind: &Kind) -> T
         Kind::ExprPart => T::ExprPart,
         Kind::Close => T::CloseString,
         Kind::End => T::End,
-    }
+    )
 }
 
 fn terminal_or_end(names: &Names, token: Option<&Token>) -> T
@@ -134,95 +81,11 @@ fn terminal_or_end(names: &Names, token: Option<&Token>) -> T
     }
 }
 
-/// Whether it is a word that may stand before a declaration.
-pub fn is_modifier(terminal: T) -> bool
-    ensures { result ≡ spec.is_modifier terminal }
+/// Whether it is an identifier that the grammar names.
+pub fn is_word(terminal: T) -> bool
+    ensures { result ≡ lookup.is_word terminal }
 {
-    match terminal {
-        T::Public | T::Private | T::Open | T::Abstract | T::Final | T::Override | T::Inline => true,
-        _ => false,
-    }
-}
-
-/// Whether it has a meaning only before `{`.
-fn wants_brace(terminal: T) -> bool
-    ensures { result ≡ spec.wants_brace terminal }
-{
-    match terminal {
-        T::Init | T::Contract | T::Finally => true,
-        _ => false,
-    }
-}
-
-/// Whether it has a meaning only before `(`.
-fn wants_round(terminal: T) -> bool
-    ensures { result ≡ spec.wants_round terminal }
-{
-    match terminal {
-        T::Catch | T::Get => true,
-        _ => false,
-    }
-}
-
-/// Whether it is an identifier.
-fn is_identifier(terminal: T) -> bool
-    ensures { result ≡ spec.is_identifier terminal }
-{
-    match terminal {
-        T::Id
-        | T::Import
-        | T::Kotlin
-        | T::Contracts
-        | T::ExperimentalContracts
-        | T::OptIn
-        | T::Public
-        | T::Private
-        | T::Open
-        | T::Abstract
-        | T::Final
-        | T::Override
-        | T::Inline
-        | T::Init
-        | T::Get
-        | T::Until
-        | T::DownTo
-        | T::Catch
-        | T::Finally
-        | T::Contract
-        | T::Returns
-        | T::ReturnsNotNull
-        | T::CallsInPlace
-        | T::InvocationKind
-        | T::Implies => true,
-        _ => false,
-    }
-}
-
-/// Whether an expression may begin with it.
-pub fn begins_expression(terminal: T) -> bool
-    ensures { result ≡ spec.begins_expression terminal }
-{
-    match terminal {
-        T::Int
-        | T::True
-        | T::False
-        | T::Null
-        | T::This
-        | T::OpenString
-        | T::OpenRound
-        | T::If
-        | T::When
-        | T::Try
-        | T::Return
-        | T::ReturnAt
-        | T::Throw
-        | T::Break
-        | T::Continue
-        | T::Minus
-        | T::Plus
-        | T::Not => true,
-        _ => is_identifier(terminal),
-    }
+    is_identifier(terminal) && !same_terminal(terminal, T::Id)
 }
 
 /// What a terminal means before the one that follows it.
