@@ -3,10 +3,10 @@ use Rattle.std.proofs.Common.{◌≡◌, ◌==◌, ℕ, List, [], ◌∷◌, con
 use Rattle.std.specs.Cmp.Lexicographic.{pointwise}
 use Rattle.kt_model.specs.Codes.{code_of}
 use Rattle.kt_model.specs.declared.finding.Rule.{Rule}
-use Rattle.kt_model.specs.declared.finding.Rule.TheVariants.{SourceTooLong, Syntax, UnknownName, DuplicateLocal, Unassigned, ValTwice, Duplicate, UnknownType, Supertype, SupertypeCycle, NoMain, Modifier, Body, NoType, ReservedMember, Override, Conflict, AbstractMember}
+use Rattle.kt_model.specs.declared.finding.Rule.TheVariants.{SourceTooLong, Syntax, UnknownName, DuplicateLocal, Unassigned, ValTwice, Duplicate, UnknownType, Supertype, SupertypeCycle, NoMain, Modifier, Body, NoType, ReservedMember, Override, Conflict, AbstractMember, NotUtf8, BadToken, TooDeep, NotAValue, NotAFunction, AssignTarget, Mismatch, ArgumentCount, TooManyLocals, FlowTooLarge}
 
 every_rule : List Rule
-every_rule = SourceTooLong ∷ Syntax ∷ UnknownName ∷ DuplicateLocal ∷ Unassigned ∷ ValTwice ∷ Duplicate ∷ UnknownType ∷ Supertype ∷ SupertypeCycle ∷ NoMain ∷ Modifier ∷ Body ∷ NoType ∷ ReservedMember ∷ Override ∷ Conflict ∷ AbstractMember ∷ []
+every_rule = SourceTooLong ∷ Syntax ∷ UnknownName ∷ DuplicateLocal ∷ Unassigned ∷ ValTwice ∷ Duplicate ∷ UnknownType ∷ Supertype ∷ SupertypeCycle ∷ NoMain ∷ Modifier ∷ Body ∷ NoType ∷ ReservedMember ∷ Override ∷ Conflict ∷ AbstractMember ∷ NotUtf8 ∷ BadToken ∷ TooDeep ∷ NotAValue ∷ NotAFunction ∷ AssignTarget ∷ Mismatch ∷ ArgumentCount ∷ TooManyLocals ∷ FlowTooLarge ∷ []
 
 -- the rule of a code
 rule_of : List ℕ → List Rule → Rule
@@ -33,6 +33,16 @@ rule_of-code ReservedMember = refl
 rule_of-code Override = refl
 rule_of-code Conflict = refl
 rule_of-code AbstractMember = refl
+rule_of-code NotUtf8 = refl
+rule_of-code BadToken = refl
+rule_of-code TooDeep = refl
+rule_of-code NotAValue = refl
+rule_of-code NotAFunction = refl
+rule_of-code AssignTarget = refl
+rule_of-code Mismatch = refl
+rule_of-code ArgumentCount = refl
+rule_of-code TooManyLocals = refl
+rule_of-code FlowTooLarge = refl
 
 -- Two rules with one code are one.
 pub code_of-injective : (r s : Rule) → code_of r ≡ code_of s → r ≡ s

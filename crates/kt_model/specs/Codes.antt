@@ -1,7 +1,7 @@
 -- The codes and the texts of the rules. They are this project's own.
 use Rattle.std.specs.Prelude.{ℕ, List, codes}
 use Rattle.kt_model.specs.declared.finding.Rule.{Rule}
-use Rattle.kt_model.specs.declared.finding.Rule.TheVariants.{SourceTooLong, Syntax, UnknownName, DuplicateLocal, Unassigned, ValTwice, Duplicate, UnknownType, Supertype, SupertypeCycle, NoMain, Modifier, Body, NoType, ReservedMember, Override, Conflict, AbstractMember}
+use Rattle.kt_model.specs.declared.finding.Rule.TheVariants.{SourceTooLong, Syntax, UnknownName, DuplicateLocal, Unassigned, ValTwice, Duplicate, UnknownType, Supertype, SupertypeCycle, NoMain, Modifier, Body, NoType, ReservedMember, Override, Conflict, AbstractMember, NotUtf8, BadToken, TooDeep, NotAValue, NotAFunction, AssignTarget, Mismatch, ArgumentCount, TooManyLocals, FlowTooLarge}
 
 abbrev pub code_of : Rule → List ℕ
 code_of SourceTooLong = codes "SOURCE_TOO_LONG"
@@ -22,6 +22,16 @@ code_of ReservedMember = codes "RESERVED_MEMBER"
 code_of Override = codes "OVERRIDE"
 code_of Conflict = codes "CONFLICT"
 code_of AbstractMember = codes "ABSTRACT_MEMBER"
+code_of NotUtf8 = codes "NOT_UTF8"
+code_of BadToken = codes "BAD_TOKEN"
+code_of TooDeep = codes "TOO_DEEP"
+code_of NotAValue = codes "NOT_A_VALUE"
+code_of NotAFunction = codes "NOT_A_FUNCTION"
+code_of AssignTarget = codes "ASSIGN_TARGET"
+code_of Mismatch = codes "MISMATCH"
+code_of ArgumentCount = codes "ARGUMENT_COUNT"
+code_of TooManyLocals = codes "TOO_MANY_LOCALS"
+code_of FlowTooLarge = codes "FLOW_TOO_LARGE"
 
 abbrev pub text_of : Rule → List ℕ
 text_of SourceTooLong = codes "source is too long"
@@ -42,3 +52,13 @@ text_of ReservedMember = codes "member name is reserved"
 text_of Override = codes "override does not fit"
 text_of Conflict = codes "inherited members conflict"
 text_of AbstractMember = codes "abstract member is not implemented"
+text_of NotUtf8 = codes "source is not UTF-8"
+text_of BadToken = codes "no token begins here"
+text_of TooDeep = codes "nesting is too deep"
+text_of NotAValue = codes "name is not a value"
+text_of NotAFunction = codes "name is not a function"
+text_of AssignTarget = codes "cannot be assigned"
+text_of Mismatch = codes "type does not fit"
+text_of ArgumentCount = codes "wrong number of arguments"
+text_of TooManyLocals = codes "too many variables"
+text_of FlowTooLarge = codes "body is too large"

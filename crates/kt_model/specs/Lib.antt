@@ -21,3 +21,12 @@ pub mod BodyTrees
 pub mod ControlFlow
 pub mod Bodies
 pub mod NodeKeys
+pub mod BuiltIns
+pub mod NameEvents
+pub mod Scopes
+pub mod NameRules
+pub mod TreeWalks
+pub mod TreeNumbers
+pub mod ShapeRules
+pub mod Typing
+pub mod TypingLaws

@@ -51,6 +51,26 @@ pub enum Rule {
     Conflict,
     /// A class that is not abstract has a member without an implementation.
     AbstractMember,
+    /// The source is not UTF-8.
+    NotUtf8,
+    /// No token begins at a place of the source.
+    BadToken,
+    /// Phrases or trees are nested too deep.
+    TooDeep,
+    /// A name that is read or assigned is that of no variable, but of a function or class.
+    NotAValue,
+    /// A name that is called is only a variable's.
+    NotAFunction,
+    /// A left side is neither a name nor a member behind `.`.
+    AssignTarget,
+    /// A tree has not the type that is needed there.
+    Mismatch,
+    /// A call has another number of arguments than what it calls.
+    ArgumentCount,
+    /// A body has more variables than are allowed.
+    TooManyLocals,
+    /// The graph of a body is larger than is allowed.
+    FlowTooLarge,
 }
 
 impl Rule {
@@ -77,6 +97,16 @@ impl Rule {
             Rule::Override => "OVERRIDE",
             Rule::Conflict => "CONFLICT",
             Rule::AbstractMember => "ABSTRACT_MEMBER",
+            Rule::NotUtf8 => "NOT_UTF8",
+            Rule::BadToken => "BAD_TOKEN",
+            Rule::TooDeep => "TOO_DEEP",
+            Rule::NotAValue => "NOT_A_VALUE",
+            Rule::NotAFunction => "NOT_A_FUNCTION",
+            Rule::AssignTarget => "ASSIGN_TARGET",
+            Rule::Mismatch => "MISMATCH",
+            Rule::ArgumentCount => "ARGUMENT_COUNT",
+            Rule::TooManyLocals => "TOO_MANY_LOCALS",
+            Rule::FlowTooLarge => "FLOW_TOO_LARGE",
         }
     }
 
@@ -103,6 +133,16 @@ impl Rule {
             Rule::Override => "override does not fit",
             Rule::Conflict => "inherited members conflict",
             Rule::AbstractMember => "abstract member is not implemented",
+            Rule::NotUtf8 => "source is not UTF-8",
+            Rule::BadToken => "no token begins here",
+            Rule::TooDeep => "nesting is too deep",
+            Rule::NotAValue => "name is not a value",
+            Rule::NotAFunction => "name is not a function",
+            Rule::AssignTarget => "cannot be assigned",
+            Rule::Mismatch => "type does not fit",
+            Rule::ArgumentCount => "wrong number of arguments",
+            Rule::TooManyLocals => "too many variables",
+            Rule::FlowTooLarge => "body is too large",
         }
     }
 }

@@ -7,6 +7,8 @@ pub mod class_table;
 pub mod finding;
 pub mod graph;
 pub mod kinds;
+pub mod name_events;
 pub mod status;
 pub mod top_names;
+pub mod typing;
 pub mod uses;

@@ -1,5 +1,5 @@
 //! What the names of a file stand for.
-ghost use Rattle.std.specs.Prelude.{◌≡◌, ◌==◌, map, find, slice_get};
+ghost use Rattle.std.specs.Prelude.{◌≡◌, ◌==◌, map, find, slice_get, option_and_then};
 ghost use Rattle.std.specs.List.Sorted.{IsStrictlyIncreasing};
 ghost use Rattle.kt_model.specs.NameUses.{named_at, named_if, parameters_at};
 
@@ -123,6 +123,20 @@ impl Uses {
         }
     }
 
+    /// The declarations of the file; a declaration's number is its place here.
+    pub fn declarations(&self) -> &[Declaration]
+        ensures { result.now ≡ self.now.declared }
+    {
+        self.declarations.as_slice()
+    }
+
+    /// What each name stands for, by the trees' numbers, which rise.
+    pub fn rows(&self) -> &[UseRow]
+        ensures { result.now ≡ self.now.rows }
+    {
+        self.uses.as_slice()
+    }
+
     /// What the name in the tree with this number stands for.
     #[tactic(auto, unfolding(crate::specs::NameUses::named_at))]
     pub fn named(&self, tree: u32) -> Named
@@ -131,6 +145,16 @@ impl Uses {
         match row_of(self.uses.as_slice(), tree) {
             Some(row) => named_by(self.declarations.as_slice(), row.declaration),
             None => Named::Other,
+        }
+    }
+
+    /// The type that is written at a declaration, by its place; `None` where none is written, or there is no such declaration.
+    pub fn written(&self, declaration: u32) -> Option<KtType>
+        ensures { result ≡ option_and_then (λ d. d.written) (slice_get self.now.declared declaration) }
+    {
+        match self.declarations.as_slice().get(declaration as usize) {
+            Some(declared) => declared.written,
+            None => None,
         }
     }
 

@@ -1,0 +1,36 @@
+-- The built-in functions that are open: how many arguments each takes, of which type, and what it gives.
+--
+-- From Kotlin's standard library, `kotlin.io`: `println` and `print` take any value; `println` also none. The numbers are those of the built-in names.
+-- To open a function: a line here.
+use Rattle.std.specs.Prelude.{ℕ, true, false, List, [], ◌∷◌, ◌==◌, Option, find}
+use Rattle.kt_model.specs.declared.kinds.KtType.{KtType}
+use Rattle.kt_model.specs.declared.kinds.Head.TheVariants as head
+
+-- a built-in function by its name's number: the least and the most number of arguments, their type, and its result
+pub record BuiltIn : Type 0 where
+  pub name : ℕ
+  pub least : ℕ
+  pub most : ℕ
+  pub parameter : KtType
+  pub result : KtType
+
+-- `Any?`
+abbrev pub any_value : KtType
+any_value = record { head = head.Any; nullable = true }
+
+abbrev pub unit_type : KtType
+unit_type = record { head = head.Unit; nullable = false }
+
+abbrev pub println : BuiltIn
+println = record { name = 20; least = 0; most = 1; parameter = any_value; result = unit_type }
+
+abbrev pub print : BuiltIn
+print = record { name = 21; least = 1; most = 1; parameter = any_value; result = unit_type }
+
+-- in the order of their names' numbers
+abbrev pub built_in_functions : List BuiltIn
+built_in_functions = println ∷ print ∷ []
+
+-- the built-in function of that name, where it is open
+abbrev pub built_in_named : ℕ → Option BuiltIn
+built_in_named name = find (λ b. b.name == name) built_in_functions
