@@ -7,7 +7,7 @@
 -- A wrong use is: a local that holds nothing is read; a `val` or parameter that holds a value is assigned; an operand is of another kind than its operator
 -- needs; an argument, an assigned or a returned value lies outside the written type; a dead tree is entered; a function whose result isn't `Unit` ends
 -- without a value. There are no types in a state: what a value is, is looked at here each time, and never in the code.
-use Rattle.std.specs.Prelude.{ℕ, zero, suc, ◌+◌, ◌-◌, ◌==◌, nat_lt, ℤ, pos, Bool, true, false, ◌&&◌, not, Option, Some, None, List, [], ◌∷◌, ◌++◌, codes, if◌then◌else◌}
+use Rattle.std.specs.Prelude.{ℕ, zero, suc, ◌+◌, ◌-◌, ◌==◌, nat_lt, ℤ, pos, Bool, true, false, ◌&&◌, ◌||◌, not, Option, Some, None, List, [], ◌∷◌, ◌++◌, codes, if◌then◌else◌}
 use Rattle.std.specs.Int.{w32, int_wrapping_add, int_wrapping_sub, int_wrapping_mul, int_wrapping_neg}
 use Rattle.std.specs.Fmt.{signed_decimal}
 use Rattle.kt_tree.specs.declared.ast.part.Sign.{Sign}
@@ -15,8 +15,9 @@ use Rattle.kt_tree.specs.declared.ast.part.Sign.TheVariants as sign
 use Rattle.kt_tree.specs.declared.ast.part.Arithmetic.{Arithmetic}
 use Rattle.kt_tree.specs.declared.ast.part.Arithmetic.TheVariants as arithmetic
 use Rattle.kt_model.specs.declared.kinds.KtType.{KtType}
-use Rattle.kt_model.specs.declared.kinds.Head.{Head}
 use Rattle.kt_model.specs.declared.kinds.Head.TheVariants as head
+use Rattle.kt_model.specs.Classes.{any}
+use Rattle.kt_model.specs.Subtypes.{class_of}
 use Rattle.kt_model.specs.BodyTrees.{Operation, Int', Sign', Sum', Arithmetic', BuiltIn', Tree, Trees, Empty', First', Operation', Name', Paren', Declare', Local', Assign', Compound', Call', number}
 use Rattle.kt_mean.specs.Events.{Printed}
 use Rattle.kt_mean.specs.Frames.{Locals, no_locals, with_local, Frame, State, Ending, Gave, Left, Over, Wrong, Run, ◌>>=◌, pure, over, wrong, turned}
@@ -47,17 +48,20 @@ choose false a b = b
 
 -- ---- values
 
--- whether a value is one of this class
-abbrev pub is_of : Head → Value → Bool
-is_of head.Any v = true
-is_of head.Unit value.Unit = true
-is_of head.Boolean (value.Bool b) = true
-is_of head.Int (value.Int k) = true
-is_of _ _ = false
+-- the number of a value's class
+abbrev pub class_of_value : Value → ℕ
+class_of_value value.Unit = 1
+class_of_value (value.Bool b) = 2
+class_of_value (value.Int k) = 3
+
+-- whether a value is one of a class, which is its own or `Any`; `Nothing` has no class and no value
+abbrev pub is_of : Option ℕ → Value → Bool
+is_of None v = false
+is_of (Some c) v = (c == any) || (c == class_of_value v)
 
 -- whether it lies in a type
 abbrev pub lies : Value → KtType → Bool
-lies v t = is_of t.head v
+lies v t = is_of (class_of t.head) v
 
 -- whether it lies in the written type, where one is written
 abbrev pub fits : Option KtType → Value → Bool
