@@ -8,3 +8,4 @@ pub mod Frames
 pub mod Evaluation
 pub mod WholeRun
 pub mod EvaluationLaws
+pub mod WorkedRuns
