@@ -1,5 +1,5 @@
 -- All laws together, and from the entry of each body.
-use Rattle.std.proofs.Common.{◌≡◌, ◌⊎◌, ℕ, zero, suc, ◌-◌, ◌==◌, is_some, Bool, true, false, if◌then◌else◌, Option, Some, None, option_map, slice_get, List, [], ◌∷◌, ◌++◌, Contains, inl, inr, refl, sym, ap, subst, ◌∙◌, true≢false}
+use Rattle.std.proofs.Common.{IsSome, ◌≡◌, ◌⊎◌, ℕ, zero, suc, ◌-◌, ◌==◌, is_some, Bool, true, false, if◌then◌else◌, Option, Some, None, option_map, slice_get, List, [], ◌∷◌, ◌++◌, Contains, inl, inr, refl, sym, ap, subst, ◌∙◌, true≢false}
 use Rattle.std.proofs.lemmas.Bool.{false≢true}
 use Rattle.kt_tree.specs.declared.ast.declaration.File.{File}
 use Rattle.kt_tree.specs.declared.ast.declaration.FunctionBody.{FunctionBody}
@@ -9,7 +9,7 @@ use Rattle.kt_model.specs.Classes.{Classes}
 use Rattle.kt_model.specs.NameUses.{Resolved, named_at, parameters_at}
 use Rattle.kt_model.specs.Bodies.{function_trees, body_trees_of}
 use Rattle.kt_model.specs.BodyTrees.{Tree, Trees, Empty', First', expr_tree, Operation', Name', Paren', Not', And', Or', If', Declare', Local', Assign', Compound', Call', Return', Throw', Shut', number}
-use Rattle.kt_model.specs.ControlFlow.{Edge, Exits, in_of, all_edges, entry_of, entry_node, params_node, end_node, on, outside, in_body, body_edges}
+use Rattle.kt_model.specs.ControlFlow.{Node, Edge, Exits, in_of, all_edges, entry_of, entry_node, params_node, end_node, on, outside, in_body, body_edges}
 use Rattle.kt_model.specs.declared.kinds.KtType.{KtType}
 use Rattle.kt_model.specs.declared.kinds.Head.{Head}
 use Rattle.kt_model.specs.declared.kinds.Head.TheVariants as head
@@ -25,7 +25,10 @@ use Rattle.kt_mean.specs.Evaluation.{Function, Program, choose, spend, tree_at, 
 use Rattle.kt_mean.specs.WholeRun.{start}
 use Rattle.kt_sound.specs.TreesWithin.{all_trees_in}
 use Rattle.kt_sound.specs.FlowOfBody.{IsFine}
-use Rattle.kt_sound.specs.BodySoundness.{is_expression, function_of, IsAcceptedBody, IsAcceptedProgram, BodiesNeverWrong}
+use Rattle.kt_model.specs.declared.graph.Tag.TheVariants.{In}
+use Rattle.kt_mean.specs.BodyPaths.{IsNodePath}
+use Rattle.kt_mean.specs.Programs.{is_expression, function_of, IsDeadTree}
+use Rattle.kt_sound.specs.BodySoundness.{IsAcceptedBody, IsAcceptedProgram, BodiesNeverWrong}
 use Rattle.kt_sound.proofs.TypingSteps.{none-some, some-some, written_trees}
 use Rattle.kt_sound.proofs.NoFinding.{not_open_none}
 use Rattle.kt_sound.proofs.BodyStanding.{Place, Stands, EachEdge, Within, Post, Eval, Keeps}
@@ -90,7 +93,7 @@ keeps_eval p cx set callees (suc depth) t g context exits way locals s w a st =
     let s' = record s { steps = s.steps - 1 } in
     let found = (judged cx way locals t).found in
     spent_post g exits way found (choose (p.dead (number t)) wrong (tree_at p go t)) s (s.steps == 0)
-    (alive_post g exits way found (p.dead (number t)) (tree_at p go t) s' (g.fine.alive (in_of context.copy t) st.path st.is_path refl)
+    (alive_post g exits way found (p.dead (number t)) (tree_at p go t) s' (g.alive (in_of context.copy t) st.path st.is_path refl)
     (keeps_tree p cx set go (calls_keep p cx callees go keeps) keeps t g context exits way locals s' w a (record { path = st.path; is_path = st.is_path; agrees = st.agrees })))
 
 -- ---- from the entry of a body
@@ -155,14 +158,24 @@ module _ (file : File) (classes : Classes) (uses : Resolved) (p : Program) (a : 
   abbrev edges_of : FunctionDecl → List Edge
   edges_of d = body_edges [] (trees_of d)
 
+  -- a tree that is entered along a path is not marked as dead
+  alive_at : (place : ℕ) (d : FunctionDecl) → slice_get file.functions place ≡ Some d → parameters_at uses place ≡ [] → (n : Node) (path : List Node) → IsNodePath (edges_of d) (n ∷ path) → n.tag ≡ In
+      → (b : Bool) → p.dead n.tree ≡ b → b ≡ false
+  alive_at place d e none n path walked tag false i = refl
+  alive_at place d e none n path walked tag true i =
+      let dead : IsDeadTree file uses n.tree = (a.is_program.dead n.tree).0 i in
+      absurd (dead.unreached place (function_of uses place d) n path (ap (λ o. option_map (function_of uses place) o) e)
+      (subst (λ xs. IsNodePath (body_edges xs (trees_of d)) (n ∷ path)) (sym none) walked) refl tag)
+
   -- the place of a function that can be called
-  place_of : (place : ℕ) (d : FunctionDecl) → parameters_at uses place ≡ [] → IsAcceptedBody file classes uses p place (function_of uses place d) → Place p context
-  place_of place d none accepted = record {
+  place_of : (place : ℕ) (d : FunctionDecl) → slice_get file.functions place ≡ Some d → parameters_at uses place ≡ [] → IsAcceptedBody file classes uses p place (function_of uses place d) → Place p context
+  place_of place d e none accepted = record {
     edges = edges_of d;
     body = trees_of d;
     locals = (all_judged context (ways_of place d) [] (trees_of d)).locals;
     result = Some unit;
-    fine = subst (λ xs. IsFine p.dead (body_edges xs (trees_of d)) (trees_of d)) none accepted.fine;
+    fine = subst (λ xs. IsFine (body_edges xs (trees_of d)) (trees_of d)) none accepted.fine;
+    alive = λ n path walked tag. alive_at place d e none n path walked tag (p.dead n.tree) refl;
     calls = accepted.resolved.calls;
     returns = accepted.resolved.returns;
     as_written = written_trees context (ways_of place d) [] (trees_of d) (λ x t w e. absurd (none-some (Some t) e));
@@ -178,7 +191,7 @@ module _ (file : File) (classes : Classes) (uses : Resolved) (p : Program) (a : 
       → IsAcceptedBody file classes uses p place (function_of uses place d) → Callee p context (function_of uses place d)
   unfolding place_of
   callee_of place d s e can accepted =
-      let here = place_of place d can.none accepted in
+      let here = place_of place d e can.none accepted in
       let all = all_within (edges_of d) in
       let first = on outside entry_node (params_node [] ∷ []) in
       let second = on outside (params_node []) (entry_of 0 (end_node ∷ []) (trees_of d)) in
@@ -216,11 +229,11 @@ module _ (file : File) (classes : Classes) (uses : Resolved) (p : Program) (a : 
   callees_of place f s e i = by (slice_get file.functions place) refl
     where
       by : (o : Option FunctionDecl) → slice_get file.functions place ≡ o → Callee p context f × ((s.most ≡ 0) × (s.result ≡ unit))
-      by None g = absurd (none-some f (sym (a.functions place ∙ ap (λ z. option_map (function_of uses place) z) g) ∙ e))
+      by None g = absurd (none-some f (sym (a.is_program.functions place ∙ ap (λ z. option_map (function_of uses place) z) g) ∙ e))
       by (Some d) g =
-          let same : function_of uses place d ≡ f = some-some (function_of uses place d) f (sym (a.functions place ∙ ap (λ z. option_map (function_of uses place) z) g) ∙ e) in
+          let same : function_of uses place d ≡ f = some-some (function_of uses place d) f (sym (a.is_program.functions place ∙ ap (λ z. option_map (function_of uses place) z) g) ∙ e) in
           let can = open_is (parameters_at uses place) (declaration_type uses (function_place place)) s i in
-          (subst (λ z. Callee p context z) same (callee_of place d s g can (subst (λ z. IsAcceptedBody file classes uses p place z) (sym same) (a.bodies place f e))), (can.most, can.gives))
+          (subst (λ z. Callee p context z) same (callee_of place d s g can (subst (λ z. IsAcceptedBody file classes uses p place z) (sym same) (a.bodies place f (sym (a.is_program.functions place) ∙ e)))), (can.most, can.gives))
 
 -- ---- a whole run
 
@@ -233,9 +246,9 @@ not_wrong here Wrong h = h
 pub bodies_never : BodiesNeverWrong
 bodies_never file classes uses p steps input a =
     let cx = context_of classes uses in
-    let set : Setting p cx = record { built_in = a.built_in; written = a.written } in
+    let set : Setting p cx = record { built_in = a.built_in; written = a.is_program.written } in
     let callees = callees_of file classes uses p a in
-    let f = some_of (p.functions p.main) a.has_main in
+    let f = some_of (p.functions p.main) (subst (λ o. IsSome o) (sym (a.is_program.functions p.main)) a.has_main) in
     let s = some_of (signature_of uses p.main) a.main in
     let kept = calls_keep p cx callees (eval p steps) (keeps_eval p cx set callees steps) p.main f.0 s.0 f.1 s.1 in
     called_ends (λ (e : Ending Value). NotWrong e) p (eval p steps) (p.functions p.main) f.0 (start steps input) f.1 kept.parameters tt

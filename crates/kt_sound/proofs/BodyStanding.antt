@@ -3,6 +3,7 @@ use Rattle.std.proofs.Common.{◌≡◌, ℕ, is_some, Bool, true, false, Option
 use Rattle.std.specs.Prelude.{⊤, IsSome}
 use Rattle.kt_model.specs.BodyTrees.{Tree, Trees}
 use Rattle.kt_model.specs.ControlFlow.{Node, Edge, FlowContext, Exits, Then, Branch, in_of, edges}
+use Rattle.kt_model.specs.declared.graph.Tag.TheVariants.{In}
 use Rattle.kt_model.specs.declared.graph.Variable.TheVariants.{Local}
 use Rattle.kt_model.specs.declared.kinds.KtType.{KtType}
 use Rattle.kt_model.specs.declared.typing.Way.{Way}
@@ -15,7 +16,8 @@ use Rattle.kt_mean.specs.declared.states.Way.TheVariants.{Return}
 use Rattle.kt_mean.specs.Frames.{Frame, State, Ending, Gave, Left, Over, Wrong, Run}
 use Rattle.kt_mean.specs.Evaluation.{Program, fits}
 use Rattle.kt_sound.specs.TreesWithin.{trees_in, all_trees_in, called_by, returns_at}
-use Rattle.kt_sound.specs.FlowOfBody.{IsNodePath, assigned_on, IsFine}
+use Rattle.kt_mean.specs.BodyPaths.{IsNodePath}
+use Rattle.kt_sound.specs.FlowOfBody.{assigned_on, IsFine}
 use Rattle.kt_sound.proofs.TypingSteps.{Known, Kept, AsWritten}
 use Rattle.kt_sound.proofs.ValueTypes.{Lies}
 
@@ -27,7 +29,8 @@ pub record Place (p : Program) (cx : TypeContext) : Type 0 where
   pub body : Trees
   pub locals : LocalTypes
   pub result : Option KtType
-  pub fine : IsFine p.dead edges body
+  pub fine : IsFine edges body
+  pub alive : (n : Node) (path : List Node) → IsNodePath edges (n ∷ path) → n.tag ≡ In → p.dead n.tree ≡ false
   pub calls : (t : Tree) (f : ℕ) → Contains (all_trees_in body) t → called_by t ≡ Some f → IsSome (p.functions f)
   pub returns : (t : Tree) → Contains (all_trees_in body) t → returns_at t ≡ true
   pub as_written : AsWritten cx.written locals

@@ -1,39 +1,18 @@
 -- The theorem of soundness for the meaning of bodies, over the definitions alone.
-use Rattle.std.specs.Prelude.{◌≡◌, ℕ, Bool, true, false, List, [], Option, Some, None, option_map, slice_get, IsSome, Contains}
-use Rattle.kt_tree.specs.declared.ast.declaration.FunctionBody.{FunctionBody}
-use Rattle.kt_tree.specs.declared.ast.declaration.FunctionBody.TheVariants as written
-use Rattle.kt_tree.specs.declared.ast.declaration.FunctionDecl.{FunctionDecl}
+use Rattle.std.specs.Prelude.{◌≡◌, ℕ, true, List, [], Some, IsSome, Contains}
 use Rattle.kt_tree.specs.declared.ast.declaration.File.{File}
 use Rattle.kt_model.specs.Classes.{Classes, supers_of}
-use Rattle.kt_model.specs.NameUses.{Resolved, named_at, parameters_at}
+use Rattle.kt_model.specs.NameUses.{Resolved}
 use Rattle.kt_model.specs.BodyTrees.{Tree}
-use Rattle.kt_model.specs.Bodies.{body_trees_of}
 use Rattle.kt_model.specs.ControlFlow.{body_edges}
-use Rattle.kt_model.specs.Typing.{declaration_type, function_place, signature_of, body_judged}
+use Rattle.kt_model.specs.Typing.{signature_of, body_judged}
 use Rattle.kt_model.specs.declared.uses.Owner.TheVariants as owner
 use Rattle.kt_mean.specs.Frames.{NotWrong}
 use Rattle.kt_mean.specs.Evaluation.{Function, Program}
+use Rattle.kt_mean.specs.Programs.{functions_of, IsProgram}
 use Rattle.kt_mean.specs.WholeRun.{whole}
 use Rattle.kt_sound.specs.TreesWithin.{all_trees_in, called_by, returns_at}
 use Rattle.kt_sound.specs.FlowOfBody.{IsFine}
-
--- ---- the program of a file
-
-abbrev pub is_expression : Option FunctionBody → Bool
-is_expression None = false
-is_expression (Some (written.Expr e)) = true
-is_expression (Some (written.Block contract block)) = false
-
-abbrev pub function_of : Resolved → ℕ → FunctionDecl → Function
-function_of uses f d = record {
-  parameters = parameters_at uses f;
-  body = body_trees_of (named_at uses) d.body;
-  is_expression = is_expression d.body;
-  result = declaration_type uses (function_place f);
-}
-
-abbrev pub functions_of : File → Resolved → ℕ → Option Function
-functions_of file uses f = option_map (function_of uses f) (slice_get file.functions f)
 
 -- ---- what is asked of a body
 
@@ -46,7 +25,7 @@ pub record IsResolvedBody (p : Program) (f : Function) : Type 0 where
 pub record IsAcceptedBody (file : File) (classes : Classes) (uses : Resolved) (p : Program) (place : ℕ) (f : Function) : Type 0 where
   pub resolved : IsResolvedBody p f
   pub typed : (body_judged file classes uses (owner.Function place)).findings ≡ []
-  pub fine : IsFine p.dead (body_edges f.parameters f.body) f.body
+  pub fine : IsFine (body_edges f.parameters f.body) f.body
 
 -- `Any`, `Unit`, `Boolean` and `Int` have no written supertypes.
 pub record HasBuiltInClasses (classes : Classes) : Type 0 where
@@ -55,13 +34,12 @@ pub record HasBuiltInClasses (classes : Classes) : Type 0 where
   pub boolean_class : supers_of classes 2 ≡ []
   pub int_class : supers_of classes 3 ≡ []
 
--- The program is that of a file, in which no rule is violated; its `main` can be called.
+-- The program of a file whose bodies are accepted, and whose `main` can be called.
 pub record IsAcceptedProgram (file : File) (classes : Classes) (uses : Resolved) (p : Program) : Type 0 where
+  pub is_program : IsProgram file uses p
   pub built_in : HasBuiltInClasses classes
-  pub functions : (f : ℕ) → p.functions f ≡ functions_of file uses f
-  pub written : (x : ℕ) → p.written x ≡ declaration_type uses x
-  pub bodies : (place : ℕ) (f : Function) → p.functions place ≡ Some f → IsAcceptedBody file classes uses p place f
-  pub has_main : IsSome (p.functions p.main)
+  pub bodies : (place : ℕ) (f : Function) → functions_of file uses place ≡ Some f → IsAcceptedBody file classes uses p place f
+  pub has_main : IsSome (functions_of file uses p.main)
   pub main : IsSome (signature_of uses p.main)
 
 -- The run of an accepted program never ends by a wrong use.
