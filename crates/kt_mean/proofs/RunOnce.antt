@@ -23,7 +23,7 @@ pub one_block : (source : List ℕ) (a b : List Stmt) → HasBody source a → H
 one_block source a b h k = same_reads a b h.rest k.rest (sym h.reads ∙ k.reads)
 
 -- two tests of the same facts are equal
-same_test : (P : Type 0) (a b : Bool) → (a ≡ true → P) → (P → a ≡ true) → (b ≡ true → P) → (P → b ≡ true) → a ≡ b
+pub same_test : (P : Type 0) (a b : Bool) → (a ≡ true → P) → (P → a ≡ true) → (b ≡ true → P) → (P → b ≡ true) → a ≡ b
 same_test P true true f g h k = refl
 same_test P true false f g h k = sym (k (f refl))
 same_test P false true f g h k = g (h refl)

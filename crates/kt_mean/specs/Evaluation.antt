@@ -7,16 +7,17 @@
 -- A wrong use is: a local that holds nothing is read; a `val` or parameter that holds a value is assigned; an operand is of another kind than its operator
 -- needs; an argument, an assigned or a returned value lies outside the written type; a dead tree is entered; a function whose result isn't `Unit` ends
 -- without a value. There are no types in a state: what a value is, is looked at here each time, and never in the code.
-use Rattle.std.specs.Prelude.{ℕ, zero, suc, ◌+◌, ◌-◌, ◌==◌, nat_lt, ℤ, pos, Bool, true, false, ◌&&◌, not, Option, Some, None, List, [], ◌∷◌, ◌++◌, codes, if◌then◌else◌}
-use Rattle.std.specs.Int.{w32, int_wrapping_add, int_wrapping_sub, int_wrapping_mul, int_wrapping_neg}
+use Rattle.std.specs.Prelude.{ℕ, zero, suc, ◌+◌, ◌-◌, ◌==◌, nat_lt, ℤ, pos, neg_ℤ, ◌+ℤ◌, ◌-ℤ◌, ◌*ℤ◌, Bool, true, false, ◌&&◌, ◌||◌, not, Option, Some, None, List, [], ◌∷◌, ◌++◌, codes, if◌then◌else◌}
+use Rattle.std.specs.Int.{w32, int_wrap}
 use Rattle.std.specs.Fmt.{signed_decimal}
 use Rattle.kt_tree.specs.declared.ast.part.Sign.{Sign}
 use Rattle.kt_tree.specs.declared.ast.part.Sign.TheVariants as sign
 use Rattle.kt_tree.specs.declared.ast.part.Arithmetic.{Arithmetic}
 use Rattle.kt_tree.specs.declared.ast.part.Arithmetic.TheVariants as arithmetic
 use Rattle.kt_model.specs.declared.kinds.KtType.{KtType}
-use Rattle.kt_model.specs.declared.kinds.Head.{Head}
 use Rattle.kt_model.specs.declared.kinds.Head.TheVariants as head
+use Rattle.kt_model.specs.Classes.{any}
+use Rattle.kt_model.specs.Subtypes.{class_of}
 use Rattle.kt_model.specs.BodyTrees.{Operation, Int', Sign', Sum', Arithmetic', BuiltIn', Tree, Trees, Empty', First', Operation', Name', Paren', Declare', Local', Assign', Compound', Call', number}
 use Rattle.kt_mean.specs.Events.{Printed}
 use Rattle.kt_mean.specs.Frames.{Locals, no_locals, with_local, Frame, State, Ending, Gave, Left, Over, Wrong, Run, ◌>>=◌, pure, over, wrong, turned}
@@ -47,17 +48,20 @@ choose false a b = b
 
 -- ---- values
 
--- whether a value is one of this class
-abbrev pub is_of : Head → Value → Bool
-is_of head.Any v = true
-is_of head.Unit value.Unit = true
-is_of head.Boolean (value.Bool b) = true
-is_of head.Int (value.Int k) = true
-is_of _ _ = false
+-- the number of a value's class
+abbrev pub class_of_value : Value → ℕ
+class_of_value value.Unit = 1
+class_of_value (value.Bool b) = 2
+class_of_value (value.Int k) = 3
+
+-- whether a value is one of a class, which is its own or `Any`; `Nothing` has no class and no value
+abbrev pub is_of : Option ℕ → Value → Bool
+is_of None v = false
+is_of (Some c) v = (c == any) || (c == class_of_value v)
 
 -- whether it lies in a type
 abbrev pub lies : Value → KtType → Bool
-lies v t = is_of t.head v
+lies v t = is_of (class_of t.head) v
 
 -- whether it lies in the written type, where one is written
 abbrev pub fits : Option KtType → Value → Bool
@@ -101,7 +105,11 @@ write fixed x v = λ s. write_over fixed (s.here.locals x) x v s
 unfoldable pub print : List ℕ → Run Value
 print text = λ s. record { ending = Gave value.Unit s; events = Printed text ∷ [] }
 
--- ---- operations on values; Int has 32 bits and wraps
+-- ---- operations on values
+
+-- a number as an `Int`, which has 32 bits: its remainder modulo 2 ^ 32 that lies from -2 ^ 31 on, below 2 ^ 31
+abbrev pub int_of : ℤ → Value
+int_of z = value.Int (int_wrap w32 z)
 
 abbrev pub on_one : (ℤ → Run Value) → List Value → Run Value
 on_one f (value.Int a ∷ []) = f a
@@ -111,14 +119,14 @@ abbrev pub on_two : (ℤ → ℤ → Run Value) → List Value → Run Value
 on_two f (value.Int a ∷ value.Int b ∷ []) = f a b
 on_two f _ = wrong
 
-abbrev pub signed : Sign → ℤ → ℤ
-signed sign.Minus a = int_wrapping_neg w32 a
-signed sign.Plus a = a
+abbrev pub signed : Sign → ℤ → Value
+signed sign.Minus a = int_of (neg_ℤ a)
+signed sign.Plus a = value.Int a
 
 -- Division comes with exceptions.
 abbrev pub arithmetic_of : Arithmetic → ℤ → ℤ → Run Value
-arithmetic_of arithmetic.Subtract a b = pure (value.Int (int_wrapping_sub w32 a b))
-arithmetic_of arithmetic.Multiply a b = pure (value.Int (int_wrapping_mul w32 a b))
+arithmetic_of arithmetic.Subtract a b = pure (int_of (a -ℤ b))
+arithmetic_of arithmetic.Multiply a b = pure (int_of (a *ℤ b))
 arithmetic_of _ a b = wrong
 
 -- the numbers of the names of the built-in functions
@@ -137,8 +145,8 @@ built_in name _ = wrong
 -- The operations that are not here are not open yet.
 abbrev pub operated : Operation → List Value → Run Value
 operated (Int' k) [] = pure (value.Int (pos k))
-operated (Sign' s) vs = on_one (λ a. pure (value.Int (signed s a))) vs
-operated Sum' vs = on_two (λ a b. pure (value.Int (int_wrapping_add w32 a b))) vs
+operated (Sign' s) vs = on_one (λ a. pure (signed s a)) vs
+operated Sum' vs = on_two (λ a b. pure (int_of (a +ℤ b))) vs
 operated (Arithmetic' o) vs = on_two (arithmetic_of o) vs
 operated (BuiltIn' name returns) vs = built_in name vs
 operated _ vs = wrong

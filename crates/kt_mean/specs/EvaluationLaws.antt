@@ -1,8 +1,11 @@
 -- Laws of the meaning of bodies.
 use Rattle.std.specs.Prelude.{◌≡◌, ℕ, ◌≤◌, List}
+use Rattle.kt_tree.specs.declared.ast.declaration.File.{File}
+use Rattle.kt_model.specs.NameUses.{Resolved}
 use Rattle.kt_model.specs.BodyTrees.{Tree}
 use Rattle.kt_mean.specs.Frames.{State}
 use Rattle.kt_mean.specs.Evaluation.{Program, eval, entered, meaning}
+use Rattle.kt_mean.specs.Programs.{IsProgram}
 use Rattle.kt_mean.specs.WholeRun.{whole, whole_within}
 
 -- Each entering takes a step, so any number from the steps left on gives the same.
@@ -16,3 +19,7 @@ MeaningUnfolds = (p : Program) (t : Tree) (s : State) → meaning p t s ≡ ente
 -- So a whole run is `main` with the meaning of its trees.
 abbrev pub WholeIsMeaning : Type 0
 WholeIsMeaning = (p : Program) (steps : ℕ) (input : List ℕ) → whole p steps input ≡ whole_within p (meaning p) steps input
+
+-- A file whose names are resolved has one run, of so many steps on this input.
+abbrev pub OneRun : Type 0
+OneRun = (file : File) (uses : Resolved) (p q : Program) (steps : ℕ) (input : List ℕ) → IsProgram file uses p → IsProgram file uses q → whole p steps input ≡ whole q steps input

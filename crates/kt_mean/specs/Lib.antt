@@ -9,3 +9,5 @@ pub mod Evaluation
 pub mod WholeRun
 pub mod Programs
 pub mod EvaluationLaws
+pub mod WorkedRuns
+pub mod BodyPaths

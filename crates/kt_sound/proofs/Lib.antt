@@ -4,3 +4,14 @@ pub mod Agreement
 pub mod FlowSteps
 pub mod Laws
 pub mod Joined
+pub mod TypingSteps
+pub mod NoFinding
+pub mod ValueTypes
+pub mod BodyStanding
+pub mod BodySteps
+pub mod Operations
+pub mod BodyLaws
+pub mod LocalLaws
+pub mod CompoundLaw
+pub mod CallLaw
+pub mod BodyJoined

@@ -1,1 +1,4 @@
 pub mod Soundness
+pub mod TreesWithin
+pub mod FlowOfBody
+pub mod BodySoundness

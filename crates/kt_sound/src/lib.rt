@@ -2,10 +2,19 @@
 //! this one law, which is a statement about definitions and takes no memory.
 #![tactic(auto)]
 
+ghost use Rattle.kt_sound.specs.BodySoundness.{BodiesNeverWrong};
 ghost use Rattle.kt_sound.specs.Soundness.{NeverWrong};
 
 /// For every accepted source, every input and every number of steps the written meaning does not end by a wrong use: no local that holds nothing
 /// is read, no `val` that holds a value is assigned, no dead tree is entered.
 pub fn never_wrong()
     ensures { NeverWrong }
+{}
+
+/// For every program whose bodies violate no typing rule and no rule along paths, every input and every number of steps the run does not end by a wrong
+/// use: no local that holds nothing is read, no `val` or parameter that holds a value is assigned, no dead tree is entered, each operand is of the
+/// kind that its operator needs, and each argument, assigned or returned value lies in the written type. Of the forms that are open; the others are refused by
+/// typing.
+pub fn bodies_never_wrong()
+    ensures { BodiesNeverWrong }
 {}

@@ -1,0 +1,207 @@
+-- Operations on values of the types that they ask for.
+use Rattle.std.proofs.Common.{◌≡◌, ℕ, ℤ, pos, suc, ◌==◌, nat_le, ◌&&◌, Bool, true, false, Option, Some, None, List, [], ◌∷◌, option_map, inl, inr, refl, sym, subst, arith}
+use Rattle.std.proofs.lemmas.Bool.{cases_Bool, eqb-true, leb-true, false≢true}
+use Rattle.kt_tree.specs.declared.ast.part.Sign.TheVariants as sign
+use Rattle.kt_tree.specs.declared.token.Span.{Span}
+use Rattle.kt_tree.specs.declared.ast.part.Sign.{Sign}
+use Rattle.kt_tree.specs.declared.ast.part.Arithmetic.TheVariants as arithmetic
+use Rattle.kt_model.specs.BodyTrees.{Operation, Int', Bool', Null', Template', Sign', Sum', Arithmetic', Compare', Equal', BuiltIn', Mark, Trees, Empty', First'}
+use Rattle.kt_model.specs.Classes.{Classes}
+use Rattle.kt_model.specs.BuiltIns.{built_in_named}
+use Rattle.kt_model.specs.declared.kinds.KtType.{KtType}
+use Rattle.kt_model.specs.declared.finding.Rule.{Rule}
+use Rattle.kt_model.specs.declared.typing.Way.{Way}
+use Rattle.kt_model.specs.declared.typing.Way.TheVariants.{Unvalued, Plain, Inferred, Checked}
+use Rattle.kt_model.specs.declared.typing.Claim.TheVariants as claim
+use Rattle.kt_model.specs.Typing.{Ways, Each, Then, Signature, built_in_signature, TypeContext, LocalTypes, count, demand_if, call_if, call_demand, operation_demand, is_text, first_of, int, unit, all_judged}
+use Rattle.kt_mean.specs.declared.states.Value.{Value}
+use Rattle.kt_mean.specs.declared.states.Value.TheVariants as value
+use Rattle.kt_mean.specs.Frames.{State, Gave, Run, pure}
+use Rattle.kt_mean.specs.Evaluation.{signed, print, on_one, on_two, arithmetic_of, built_in, operated}
+use Rattle.kt_sound.specs.BodySoundness.{HasBuiltInClasses}
+use Rattle.kt_sound.proofs.NoFinding.{Under}
+use Rattle.kt_sound.proofs.ValueTypes.{Lies, lies_above, int_of, no_texts}
+use Rattle.kt_sound.proofs.BodyStanding.{LiesIn, Gives, AllGive}
+
+-- it gives a value of the type, and changes no state
+pub record Yields (r : Run Value) (d : KtType) : Type 0 where
+  pub at : (s : State) → (v : Value) × (((r s).ending ≡ Gave v s) × Lies v d)
+
+pure_yields : (v : Value) (d : KtType) → Lies v d → Yields (pure v) d
+unfolding pure
+pure_yields v d h = record { at = λ s. (v, (refl, h)) }
+
+print_yields : (text : List ℕ) → Yields (print text) unit
+unfolding print
+print_yields text = record { at = λ s. (value.Unit, (refl, refl)) }
+
+-- a value of the type that a tree has in its way
+pub gives_of : (classes : Classes) → HasBuiltInClasses classes → (way : Way) (found : Option KtType) (d : KtType) (v : Value) → found ≡ Some d → Under classes way d → Lies v d → Gives way found v
+gives_of classes h Unvalued found d v e u l = tt
+gives_of classes h Plain found d v e u l = subst (λ o. LiesIn o v) (sym e) l
+gives_of classes h Inferred found d v e u l = subst (λ o. LiesIn o v) (sym e) l
+gives_of classes h (Checked t) found d v e u l = (subst (λ o. LiesIn o v) (sym e) l, lies_above classes h v d t l u)
+
+-- ---- what is asked for
+
+pub gives-gives : (a d : KtType) → claim.Gives a ≡ claim.Gives d → a ≡ d
+gives-gives a d e = cc
+
+pub breaks-gives : (rule : Rule) (at : Span) (d : KtType) → claim.Breaks rule at ≡ claim.Gives d → ⊥
+breaks-gives rule at d e = cc
+
+pub if_gives : (b : Bool) (n : Mark) (ways : Ways) (t d : KtType) → (demand_if b n ways t).claim ≡ claim.Gives d → (b ≡ true) × (t ≡ d)
+if_gives true n ways t d e = (refl, gives-gives t d e)
+if_gives false n ways t d e = absurd (breaks-gives _ _ d e)
+
+pub call_gives : (b : Bool) (s : Signature) (n : Mark) (d : KtType) → (call_if b s n).claim ≡ claim.Gives d → (b ≡ true) × (s.result ≡ d)
+call_gives true s n d e = (refl, gives-gives s.result d e)
+call_gives false s n d e = absurd (breaks-gives _ _ d e)
+
+too_many : (a b : ℕ) (n : Mark) (ways : Ways) (t d : KtType) → (a ≡ b → ⊥) → (demand_if (a == b) n ways t).claim ≡ claim.Gives d → ⊥
+too_many a b n ways t d h e = h (eqb-true a b (if_gives (a == b) n ways t d e).0)
+
+-- ---- numbers
+
+one_int : (f : ℤ → Run Value) (found : Option KtType) (vs : List Value) → ((a : ℤ) → Yields (f a) int) → AllGive (Each (Checked int)) (found ∷ []) vs → Yields (on_one f vs) int
+one_int f found [] h g = absurd g
+one_int f found (x ∷ []) h g = let a = int_of x g.0.1 in subst (λ z. Yields (on_one f (z ∷ [])) int) (sym a.1) (h a.0)
+one_int f found (x ∷ y ∷ vs) h g = absurd g.1
+
+pub two_ints : (f : ℤ → ℤ → Run Value) (x y : Value) → ((a b : ℤ) → Yields (f a b) int) → Lies x int → Lies y int → Yields (on_two f (x ∷ y ∷ [])) int
+two_ints f x y h l m =
+    let a = int_of x l in
+    let b = int_of y m in
+    subst (λ z. Yields (on_two f (z ∷ y ∷ [])) int) (sym a.1) (subst (λ z. Yields (on_two f (value.Int a.0 ∷ z ∷ [])) int) (sym b.1) (h a.0 b.0))
+
+both_ints : (f : ℤ → ℤ → Run Value) (fa fb : Option KtType) (vs : List Value) → ((a b : ℤ) → Yields (f a b) int) → AllGive (Then (Checked int) (Each (Checked int))) (fa ∷ fb ∷ []) vs → Yields (on_two f vs) int
+both_ints f fa fb [] h g = absurd g
+both_ints f fa fb (x ∷ []) h g = absurd g.1
+both_ints f fa fb (x ∷ y ∷ []) h g = two_ints f x y h g.0.1 g.1.0.1
+both_ints f fa fb (x ∷ y ∷ z ∷ vs) h g = absurd g.1.1
+
+-- numbers by the operators that are open
+pub sum_yields : (a b : ℤ) → Yields (operated Sum' (value.Int a ∷ value.Int b ∷ [])) int
+sum_yields a b = pure_yields _ int refl
+
+pub subtract_yields : (a b : ℤ) → Yields (arithmetic_of arithmetic.Subtract a b) int
+subtract_yields a b = pure_yields _ int refl
+
+pub multiply_yields : (a b : ℤ) → Yields (arithmetic_of arithmetic.Multiply a b) int
+multiply_yields a b = pure_yields _ int refl
+
+-- there is no text on the left
+text_left : (fa fb : Option KtType) (vs : List Value) → is_text fa ≡ true → AllGive (Then Inferred (Each Plain)) (fa ∷ fb ∷ []) vs → ⊥
+text_left fa fb [] e g = g
+text_left None fb (x ∷ vs) e g = g.0
+text_left (Some t) fb (x ∷ vs) e g = no_texts x t e g.0
+
+-- ---- built-in functions
+
+-- what is to be shown of the call of a built-in function
+abbrev CallYields : TypeContext → Mark → ℕ → Type 0
+CallYields cx n name =
+    (locals : LocalTypes) (ts : Trees) (d : KtType) (vs : List Value) → (call_demand (option_map built_in_signature (built_in_named name)) n (count ts)).claim ≡ claim.Gives d
+    → AllGive (call_demand (option_map built_in_signature (built_in_named name)) n (count ts)).ways (all_judged cx (call_demand (option_map built_in_signature (built_in_named name)) n (count ts)).ways locals ts).each_found vs
+    → Yields (built_in name vs) d
+
+pub and_right : (a b : Bool) → (a && b) ≡ true → b ≡ true
+and_right true b e = e
+and_right false b e = absurd (false≢true e)
+
+println_yields : (cx : TypeContext) (n : Mark) → CallYields cx n 20
+unfolding all_judged
+println_yields cx n locals Empty' d [] e g = subst (λ t. Yields (built_in 20 []) t) (gives-gives unit d e) (print_yields (10 ∷ []))
+println_yields cx n locals Empty' d (v ∷ vs) e g = absurd g
+println_yields cx n locals (First' a Empty') d [] e g = absurd g
+println_yields cx n locals (First' a Empty') d (v ∷ []) e g = subst (λ t. Yields (built_in 20 (v ∷ [])) t) (gives-gives unit d e) (print_yields _)
+println_yields cx n locals (First' a Empty') d (v ∷ w ∷ vs) e g = absurd g.1
+println_yields cx n locals (First' a (First' b rest)) d vs e g =
+    let h = (call_gives (nat_le 0 (suc (suc (count rest))) && nat_le (suc (suc (count rest))) 1) _ n d e).0 in
+    let i = leb-true (suc (suc (count rest))) 1 (and_right (nat_le 0 (suc (suc (count rest)))) (nat_le (suc (suc (count rest))) 1) h) in
+    absurd (omega arith)
+
+println_else : (cx : TypeContext) (n : Mark) → CallYields cx n 21
+unfolding all_judged
+println_else cx n locals Empty' d vs e g = absurd (breaks-gives _ _ d e)
+println_else cx n locals (First' a Empty') d [] e g = absurd g
+println_else cx n locals (First' a Empty') d (v ∷ []) e g = subst (λ t. Yields (built_in 21 (v ∷ [])) t) (gives-gives unit d e) (print_yields _)
+println_else cx n locals (First' a Empty') d (v ∷ w ∷ vs) e g = absurd g.1
+println_else cx n locals (First' a (First' b rest)) d vs e g =
+    let h = (call_gives (nat_le 1 (suc (suc (count rest))) && nat_le (suc (suc (count rest))) 1) _ n d e).0 in
+    let i = leb-true (suc (suc (count rest))) 1 (and_right (nat_le 1 (suc (suc (count rest)))) (nat_le (suc (suc (count rest))) 1) h) in
+    absurd (omega arith)
+
+none_named : (name : ℕ) → (20 == name) ≡ false → (21 == name) ≡ false → built_in_named name ≡ None
+none_named name e f = rw e (rw f refl)
+
+call_none : (cx : TypeContext) (n : Mark) (name : ℕ) → built_in_named name ≡ None → CallYields cx n name
+call_none cx n name e locals ts d vs c g = absurd (breaks-gives _ _ d (subst (λ o. (call_demand (option_map built_in_signature o) n (count ts)).claim ≡ claim.Gives d) e c))
+
+built_in_yields : (cx : TypeContext) (n : Mark) (name : ℕ) → CallYields cx n name
+built_in_yields cx n name = elim (cases_Bool (20 == name)) [
+  | inl e ↦ subst (λ k. CallYields cx n k) (eqb-true 20 name e) (println_yields cx n)
+  | inr e ↦ elim (cases_Bool (21 == name)) [
+    | inl f ↦ subst (λ k. CallYields cx n k) (eqb-true 21 name f) (println_else cx n)
+    | inr f ↦ call_none cx n name (none_named name e f)
+  ]
+]
+
+-- ---- all operations
+
+-- parts that are checked against `Int` where there are two
+two_parts : (cx : TypeContext) (n : Mark) (o : Operation) (f : ℤ → ℤ → Run Value) (locals : LocalTypes) (ts : Trees) (d : KtType) (vs : List Value) → ((a b : ℤ) → Yields (f a b) int)
+    → (demand_if (count ts == 2) n (Then (Checked int) (Each (Checked int))) int).claim ≡ claim.Gives d
+    → AllGive (demand_if (count ts == 2) n (Then (Checked int) (Each (Checked int))) int).ways (all_judged cx (demand_if (count ts == 2) n (Then (Checked int) (Each (Checked int))) int).ways locals ts).each_found vs
+    → Yields (on_two f vs) d
+unfolding all_judged
+two_parts cx n o f locals Empty' d vs h e g = absurd (breaks-gives _ _ d e)
+two_parts cx n o f locals (First' a Empty') d vs h e g = absurd (breaks-gives _ _ d e)
+two_parts cx n o f locals (First' a (First' b Empty')) d vs h e g = subst (λ t. Yields (on_two f vs) t) (gives-gives int d e) (both_ints f _ _ vs h g)
+two_parts cx n o f locals (First' a (First' b (First' c rest))) d vs h e g = absurd (too_many (suc (suc (suc (count rest)))) 2 n _ int d (λ i. omega arith) e)
+
+text_parts : (cx : TypeContext) (n : Mark) (t : KtType) (locals : LocalTypes) (ts : Trees) (d : KtType) (vs : List Value) → is_text (first_of (all_judged cx (Each Inferred) locals ts).each_found) ≡ true
+    → (demand_if (count ts == 2) n (Then Inferred (Each Plain)) t).claim ≡ claim.Gives d
+    → AllGive (demand_if (count ts == 2) n (Then Inferred (Each Plain)) t).ways (all_judged cx (demand_if (count ts == 2) n (Then Inferred (Each Plain)) t).ways locals ts).each_found vs → ⊥
+unfolding all_judged
+text_parts cx n t locals Empty' d vs i e g = breaks-gives _ _ d e
+text_parts cx n t locals (First' a Empty') d vs i e g = breaks-gives _ _ d e
+text_parts cx n t locals (First' a (First' b Empty')) d vs i e g = text_left _ _ vs i g
+text_parts cx n t locals (First' a (First' b (First' c rest))) d vs i e g = too_many (suc (suc (suc (count rest)))) 2 n _ t d (λ j. omega arith) e
+
+int_yields : (cx : TypeContext) (n : Mark) (k : ℕ) (locals : LocalTypes) (ts : Trees) (d : KtType) (vs : List Value) → (demand_if (count ts == 0) n (Each Inferred) int).claim ≡ claim.Gives d
+    → AllGive (demand_if (count ts == 0) n (Each Inferred) int).ways (all_judged cx (demand_if (count ts == 0) n (Each Inferred) int).ways locals ts).each_found vs → Yields (operated (Int' k) vs) d
+unfolding all_judged
+int_yields cx n k locals Empty' d [] e g = subst (λ t. Yields (pure (value.Int (pos k))) t) (gives-gives int d e) (pure_yields _ int refl)
+int_yields cx n k locals Empty' d (v ∷ vs) e g = absurd g
+int_yields cx n k locals (First' a rest) d vs e g = absurd (too_many (suc (count rest)) 0 n _ int d (λ i. omega arith) e)
+
+sign_lies : (s : Sign) (k : ℤ) → Lies (signed s k) int
+sign_lies sign.Minus k = refl
+sign_lies sign.Plus k = refl
+
+sign_yields : (cx : TypeContext) (n : Mark) (s : Sign) (locals : LocalTypes) (ts : Trees) (d : KtType) (vs : List Value) → (demand_if (count ts == 1) n (Each (Checked int)) int).claim ≡ claim.Gives d
+    → AllGive (demand_if (count ts == 1) n (Each (Checked int)) int).ways (all_judged cx (demand_if (count ts == 1) n (Each (Checked int)) int).ways locals ts).each_found vs → Yields (operated (Sign' s) vs) d
+unfolding all_judged
+sign_yields cx n s locals Empty' d vs e g = absurd (breaks-gives _ _ d e)
+sign_yields cx n s locals (First' a Empty') d vs e g = subst (λ t. Yields (operated (Sign' s) vs) t) (gives-gives int d e) (one_int _ _ vs (λ k. pure_yields (signed s k) int (sign_lies s k)) g)
+sign_yields cx n s locals (First' a (First' b rest)) d vs e g = absurd (too_many (suc (suc (count rest))) 1 n _ int d (λ i. omega arith) e)
+
+-- An operation on values of the types that it asks for gives a value of its type.
+pub operation_yields : (cx : TypeContext) (n : Mark) (o : Operation) (text : Bool) (locals : LocalTypes) (ts : Trees) (d : KtType) (vs : List Value)
+    → (text ≡ true → is_text (first_of (all_judged cx (Each Inferred) locals ts).each_found) ≡ true) → (operation_demand n o text (count ts)).claim ≡ claim.Gives d
+    → AllGive (operation_demand n o text (count ts)).ways (all_judged cx (operation_demand n o text (count ts)).ways locals ts).each_found vs → Yields (operated o vs) d
+operation_yields cx n (Int' k) text locals ts d vs i e g = int_yields cx n k locals ts d vs e g
+operation_yields cx n (Bool' b) text locals ts d vs i e g = absurd (breaks-gives _ _ d e)
+operation_yields cx n Null' text locals ts d vs i e g = absurd (breaks-gives _ _ d e)
+operation_yields cx n (Template' texts) text locals ts d vs i e g = absurd (breaks-gives _ _ d e)
+operation_yields cx n (Sign' s) text locals ts d vs i e g = sign_yields cx n s locals ts d vs e g
+operation_yields cx n Sum' true locals ts d vs i e g = absurd (text_parts cx n _ locals ts d vs (i refl) e g)
+operation_yields cx n Sum' false locals ts d vs i e g = two_parts cx n Sum' _ locals ts d vs sum_yields e g
+operation_yields cx n (Arithmetic' arithmetic.Subtract) text locals ts d vs i e g = two_parts cx n Sum' _ locals ts d vs subtract_yields e g
+operation_yields cx n (Arithmetic' arithmetic.Multiply) text locals ts d vs i e g = two_parts cx n Sum' _ locals ts d vs multiply_yields e g
+operation_yields cx n (Arithmetic' arithmetic.Divide) text locals ts d vs i e g = absurd (breaks-gives _ _ d e)
+operation_yields cx n (Arithmetic' arithmetic.Remainder) text locals ts d vs i e g = absurd (breaks-gives _ _ d e)
+operation_yields cx n (Compare' c) text locals ts d vs i e g = absurd (breaks-gives _ _ d e)
+operation_yields cx n (Equal' c) text locals ts d vs i e g = absurd (breaks-gives _ _ d e)
+operation_yields cx n (BuiltIn' name returns) text locals ts d vs i e g = built_in_yields cx n name locals ts d vs e g

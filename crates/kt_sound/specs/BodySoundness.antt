@@ -1,0 +1,49 @@
+-- The theorem of soundness for the meaning of bodies, over the definitions alone.
+use Rattle.std.specs.Prelude.{◌≡◌, ℕ, true, List, [], Some, IsSome, Contains}
+use Rattle.kt_tree.specs.declared.ast.declaration.File.{File}
+use Rattle.kt_model.specs.Classes.{Classes, supers_of}
+use Rattle.kt_model.specs.NameUses.{Resolved}
+use Rattle.kt_model.specs.BodyTrees.{Tree}
+use Rattle.kt_model.specs.ControlFlow.{body_edges}
+use Rattle.kt_model.specs.Typing.{signature_of, body_judged}
+use Rattle.kt_model.specs.declared.uses.Owner.TheVariants as owner
+use Rattle.kt_mean.specs.Frames.{NotWrong}
+use Rattle.kt_mean.specs.Evaluation.{Function, Program}
+use Rattle.kt_mean.specs.Programs.{functions_of, IsProgram}
+use Rattle.kt_mean.specs.WholeRun.{whole}
+use Rattle.kt_sound.specs.TreesWithin.{all_trees_in, called_by, returns_at}
+use Rattle.kt_sound.specs.FlowOfBody.{IsFine}
+
+-- ---- what is asked of a body
+
+-- A called function is one of the file's, and each call returns, as in every file whose names are resolved.
+pub record IsResolvedBody (p : Program) (f : Function) : Type 0 where
+  pub calls : (t : Tree) (g : ℕ) → Contains (all_trees_in f.body) t → called_by t ≡ Some g → IsSome (p.functions g)
+  pub returns : (t : Tree) → Contains (all_trees_in f.body) t → returns_at t ≡ true
+
+-- No typing rule is violated in the body of the function at this place, and no rule along a path of its graph.
+pub record IsAcceptedBody (file : File) (classes : Classes) (uses : Resolved) (p : Program) (place : ℕ) (f : Function) : Type 0 where
+  pub resolved : IsResolvedBody p f
+  pub typed : (body_judged file classes uses (owner.Function place)).findings ≡ []
+  pub fine : IsFine (body_edges f.parameters f.body) f.body
+
+-- `Any`, `Unit`, `Boolean` and `Int` have no written supertypes.
+pub record HasBuiltInClasses (classes : Classes) : Type 0 where
+  pub any_class : supers_of classes 0 ≡ []
+  pub unit_class : supers_of classes 1 ≡ []
+  pub boolean_class : supers_of classes 2 ≡ []
+  pub int_class : supers_of classes 3 ≡ []
+
+-- The program of a file whose bodies are accepted, and whose `main` can be called.
+pub record IsAcceptedProgram (file : File) (classes : Classes) (uses : Resolved) (p : Program) : Type 0 where
+  pub is_program : IsProgram file uses p
+  pub built_in : HasBuiltInClasses classes
+  pub bodies : (place : ℕ) (f : Function) → functions_of file uses place ≡ Some f → IsAcceptedBody file classes uses p place f
+  pub has_main : IsSome (functions_of file uses p.main)
+  pub main : IsSome (signature_of uses p.main)
+
+-- The run of an accepted program never ends by a wrong use.
+abbrev pub BodiesNeverWrong : Type 0
+BodiesNeverWrong =
+    (file : File) (classes : Classes) (uses : Resolved) (p : Program) (steps : ℕ) (input : List ℕ) → IsAcceptedProgram file classes uses p
+    → NotWrong (whole p steps input).ending
