@@ -54,6 +54,9 @@ module _ (nodes variables : ℕ) (t : Table) (s : Statuses) (view : statuses_of 
   pub node_within : (n : ℕ) → n < length s.reached → n < nodes
   node_within n h = omega (arith, ap (λ (x : Statuses). length x.reached) view, length-map-range_with_len (node_reached t) 0 nodes, h)
 
+  pub told_nodes : length s.reached ≡ nodes
+  told_nodes = sym (ap (λ (x : Statuses). length x.reached) view) ∙ length-map-range_with_len (node_reached t) 0 nodes
+
   pub variable_within : (v : ℕ) → v < s.variables → v < variables
   variable_within v h = omega (arith, ap (λ (x : Statuses). x.variables) view, h)
 

@@ -2,11 +2,16 @@ ghost use Rattle.std.specs.Prelude.{◌≡◌, ◌+◌, ◌*◌, ◌<◌, length
 ghost use Rattle.kt_model.specs.NodePaths.{IsGraph};
 ghost use Rattle.kt_init.specs.Statuses.{Analyses};
 
+use crate::dead::owned;
+use crate::marks::Marks;
 use crate::problem::problem_of;
+use kt_model::dead::DeadList;
 use kt_model::graph::Graph;
 use kt_model::status::Status;
+use kt_model::uses::Body;
 use kt_solve::{Rows, solve};
 use kt_tree::NoMemory;
+use sqlite_items::Items;
 use std::alloc::Global;
 use std::marker::Model;
 
@@ -29,8 +34,10 @@ impl Model for Init {
 }
 
 impl Init {
-    ghost use Rattle.std.specs.Prelude.{◌≡◌, ◌<◌, length};
-    ghost use Rattle.kt_init.specs.Statuses.{reached_at, status_at};
+    ghost use Rattle.std.specs.Prelude.{◌≡◌, ◌<◌, length, IfOk};
+    ghost use Rattle.kt_model.specs.DeadTrees.{AreOutermostDead};
+    ghost use Rattle.kt_init.specs.Marks.{AreMarked};
+    ghost use Rattle.kt_init.specs.Statuses.{Analyses, reached_at, status_at};
 
     /// Whether some path ends at the node. It takes no memory.
     pub fn reached(&self, node: u32) -> bool
@@ -55,6 +62,32 @@ impl Init {
         } else {
             Status::Either
         }
+    }
+
+    /// Marks which trees of the graph are begun by a node, and which of these are entered.
+    fn marks(&self, alloc: Global, g: &Graph) -> Result<Marks, NoMemory>
+        requires { Analyses g.now self.now }
+        ensures { IfOk result (λ m. AreMarked g.now self.now (length g.now.nodes) m.begun.keys m.entered.keys) }
+    {
+        let rows = g.nodes.as_slice();
+        let mut marks = Marks::new(alloc);
+        for node in 0..self.nodes {
+            let reached = self.reached(node);
+            marks.mark(&rows[node as usize], reached)?;
+        }
+        Ok(marks)
+    }
+
+    /// The outermost dead trees of a body, whose graph this is the analysis of, in the order of the text: those that nodes of the graph begin, at none of
+    /// which a path ends, and that lie in no other such tree. NoMemory where there is none for the list and for the trees of the graph.
+    pub fn dead(&self, alloc: Global, g: &Graph, body: &Body<'_>) -> Result<DeadList, NoMemory>
+        requires { Analyses g.now self.now }
+        ensures { IfOk result (λ told. AreOutermostDead g.now body.now.file.now body.now.owner told) }
+    {
+        let marks = self.marks(alloc, g)?;
+        let mut found = Items::new(alloc);
+        owned(&marks, &mut found, body.file, body.owner)?;
+        Ok(found)
     }
 }
 

@@ -5,8 +5,10 @@
 //! `NodePaths` says of all paths, one at a time.
 #![tactic(auto)]
 
+mod dead;
 mod graph;
 mod init;
+mod marks;
 mod numbers;
 mod problem;
 #[cfg(test)]
