@@ -158,7 +158,7 @@ stmt-returns-in_ok-n-in-Local t c =
 
 pub stmt-returns-in_ok-n-in-Assign : goal.stmt-returns-in_ok-n-in-Assign
 stmt-returns-in_ok-n-in-Assign t c =
-    same_tree (ap (stmt_tree (named_at c.args.uses.now)) c.in-Assign.is ∙ stmt_assign_any (named_at c.args.uses.now) _ _ _ _ _ ∙ ap (λ w. assign_tree (named_at c.args.uses.now c.in-Assign.number) c.in-Assign.number _ w c.in-Assign.assignment (option_map (seen (named_at c.args.uses.now)) c.in-Assign.value)) (c.is_name-is_name.ensures (named_at c.args.uses.now))) (c.in_ok-n-in-Assign.ensures _ _)
+    same_tree (ap (stmt_tree (named_at c.args.uses.now)) c.in-Assign.is ∙ stmt_assign_any (named_at c.args.uses.now) _ _ _ _ _ ∙ ap (λ w. assign_tree (named_at c.args.uses.now c.in-Assign.number) c.in-Assign.number c.in-Assign.span w c.in-Assign.assignment (option_map (seen (named_at c.args.uses.now)) c.in-Assign.value)) (c.is_name-is_name.ensures (named_at c.args.uses.now))) (c.in_ok-n-in-Assign.ensures _ _)
 
 pub stmt-returns-in_ok-n-in-While : goal.stmt-returns-in_ok-n-in-While
 stmt-returns-in_ok-n-in-While t c =
@@ -202,7 +202,7 @@ piece-returns-in-Text t c =
 
 pub expr-returns-in_ok-n-in-None : goal.expr-returns-in_ok-n-in-None
 expr-returns-in_ok-n-in-None t c =
-    same_tree (tree_of_kind (named_at c.args.uses.now) c.args.e.now _ _ (c.in-Call.is ∙ ap (e.Call c.in-Call.callee c.in-Call.arguments) c.in-None.is) (kind_call (named_at c.args.uses.now) c.in-Call.callee c.in-Call.arguments)) (same_tree (ap (λ l. call_tree (named_at c.args.uses.now c.args.e.now.number) (seen_trees (map (seen (named_at c.args.uses.now)) l)) (named_there c.args.e.now.number c.args.e.now.span c.in-Call.callee.span)) (sym c.as_slice-in-None.ensures)) (c.in_ok-n-in-None.ensures _ _)))
+    same_tree (tree_of_kind (named_at c.args.uses.now) c.args.e.now _ _ (c.in-Call.is ∙ ap (e.Call c.in-Call.callee c.in-Call.arguments) c.in-None.is) (kind_call (named_at c.args.uses.now) c.in-Call.callee c.in-Call.arguments)) (same_tree (ap (λ l. call_tree (named_at c.args.uses.now c.args.e.now.number) (seen_trees (map (seen (named_at c.args.uses.now)) l)) (named_there c.args.e.now.number c.args.e.now.span c.in-Call.callee.span)) (sym c.as_slice-in-None.ensures)) (c.in_ok-n-in-None.ensures _ _))
 
 pub expr-returns-in_ok-n-in-Some : goal.expr-returns-in_ok-n-in-Some
 expr-returns-in_ok-n-in-Some t c =
