@@ -25,7 +25,8 @@ fn same_class(a: Option<u32>, b: Option<u32>) -> bool
     }
 }
 
-pub(crate) fn same_type(a: &KtType, b: &KtType) -> bool
+/// Whether two types are one.
+pub fn same_type(a: &KtType, b: &KtType) -> bool
     ensures { result ≡ spec.same_type a.now b.now }
 {
     same_class(a.head.class(), b.head.class()) && same_bool(a.nullable, b.nullable)
@@ -200,7 +201,7 @@ fn is_var_at(rows: &[ClassRow], m: Member) -> bool
 }
 
 /// Whether two members have one kind and the same parameter types.
-pub(crate) fn have_one_shape(a: &MemberRow, b: &MemberRow) -> bool
+pub fn have_one_shape(a: &MemberRow, b: &MemberRow) -> bool
     ensures { result ≡ spec.have_one_shape a.now b.now }
 {
     same_bool(is_function(a.kind), is_function(b.kind))
@@ -345,7 +346,7 @@ fn first_fitting(rows: &[ClassRow], members: &[Member]) -> Option<Member>
         .find(|m| is_fitting(rows, members, *m))
 }
 
-fn fitting(rows: &[ClassRow], members: &[Member]) -> Option<Member>
+pub(crate) fn fitting(rows: &[ClassRow], members: &[Member]) -> Option<Member>
     requires { IsRowed rows.now }
     ensures { result ≡ spec.fitting (outlines rows.now) members.now }
 {

@@ -22,8 +22,8 @@ use kt_tree::ast::{
 use sqlite_items::Items;
 use std::alloc::Global;
 
-/// The type that is written.
-pub(crate) fn written_type(tops: &TopNames, w: &TypeRef) -> KtType
+/// The type that is written. A word that names no type stands for `Any`.
+pub fn written_type(tops: &TopNames, w: &TypeRef) -> KtType
     ensures { result ≡ spec.written_type tops.now w.now }
 {
     KtType {
@@ -142,9 +142,9 @@ fn declares_function(file: &File, name: u32, class: u32) -> bool
     }
 }
 
-/// Whether a class has a member function of that name, by the classes above it.
+/// Whether a class has a member function of that name, by the class and those above it.
 #[tactic(auto, unfolding(kt_model::specs::Outlines::has_function))]
-fn has_member_function(file: &File, above: &[u32], name: u32) -> bool
+pub fn has_member_function(file: &File, above: &[u32], name: u32) -> bool
     ensures { result ≡ spec.has_function file.now above.now name }
 {
     if name == 13 {

@@ -1,13 +1,15 @@
 //! The walk over a file's declarations, which tries at each site the rules that need no members.
 ghost use Rattle.std.specs.Prelude.{◌≡◌, ◌++◌, ◌∷◌, [], IfOk, OnOk, map};
 ghost use Rattle.std.specs.List.{flat_map, list_any};
-ghost use Rattle.kt_model.specs.Sites.{OfType, OfSuper, OfNames, OfFunctions, written_sites, getter_sites, parameter_sites, function_sites, member_sites, class_sites, file_sites};
+ghost use Rattle.kt_model.specs.Sites.{OfType, OfSuper, OfNames, OfFunctions, OfBody, written_sites, getter_sites, parameter_sites, function_sites, member_sites, class_sites, file_sites};
 ghost use Rattle.kt_model.specs.DeclarationRules.{where_, has_earlier, is_unit, gives_unit, has_unit_result, has_none, is_main, declaration_rules};
 
 use crate::words::{
     class_body, class_parameter_words, constructor_parameters, parameter_words, words_of_members,
     words_of_top,
 };
+use kt_bodies::body_sites;
+use kt_model::body_site::BodySite;
 use kt_model::finding::{Finding, Rule};
 use kt_model::kinds::Head;
 use kt_model::top_names::TopNames;
@@ -18,8 +20,8 @@ use kt_tree::ast::{
 use kt_tree::{NoMemory, Span};
 use std::alloc::Global;
 
-/// Puts in the finding of a rule at a span, where its condition holds.
-pub(crate) fn push_where(
+/// Puts in the finding of a rule at a span, where its condition holds. `NoMemory` where none is left for it.
+pub fn push_where(
     out: &mut Vec<Finding>,
     condition: bool,
     rule: Rule,
@@ -272,8 +274,8 @@ fn is_unit_head(head: Option<Head>) -> bool
     }
 }
 
-/// Whether a function without a written result gives `Unit`.
-pub(crate) fn body_gives_unit(body: &Option<FunctionBody>) -> bool
+/// Whether a function without a written result gives `Unit`: its body is no expression.
+pub fn body_gives_unit(body: &Option<FunctionBody>) -> bool
     ensures { result ≡ gives_unit body.now }
 {
     match body {
@@ -324,6 +326,32 @@ fn at_file_functions(
     push_where(out, !has_main(tops, functions), Rule::NoMain, start)
 }
 
+#[tactic(auto, unfolding(kt_model::specs::DeclarationRules::declaration_rules))]
+fn at_body_site(tops: &TopNames, site: &BodySite, out: &mut Vec<Finding>) -> Result<(), NoMemory>
+    ensures { OnOk result (out.new.items ≡ out.old.items ++ declaration_rules tops.now (OfBody site.now)) }
+{
+    match site {
+        BodySite::Written(w) => {
+            let known = tops.head_named(w.name.name).is_some();
+            push_where(out, !known, Rule::UnknownType, w.name.span)
+        }
+        BodySite::Untyped(_) => Ok(()),
+    }
+}
+
+fn at_body_sites(
+    tops: &TopNames,
+    sites: &[BodySite],
+    out: &mut Vec<Finding>,
+) -> Result<(), NoMemory>
+    ensures { OnOk result (out.new.items ≡ out.old.items ++ flat_map (declaration_rules tops.now) (map OfBody sites.now)) }
+{
+    for s in sites {
+        at_body_site(tops, s, out)?;
+    }
+    Ok(())
+}
+
 /// Tries the rules on declarations at each site of the file.
 #[tactic(auto, unfolding(kt_model::specs::Sites::file_sites))]
 pub(crate) fn at_file(
@@ -338,5 +366,7 @@ pub(crate) fn at_file(
     at_names(tops, &words, out)?;
     at_file_functions(tops, file.functions.as_slice(), out)?;
     at_classes(alloc, tops, file.classes.as_slice(), out)?;
-    at_functions(alloc, tops, file.functions.as_slice(), out)
+    at_functions(alloc, tops, file.functions.as_slice(), out)?;
+    let sites = body_sites(alloc, file)?;
+    at_body_sites(tops, &sites, out)
 }

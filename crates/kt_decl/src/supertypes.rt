@@ -15,7 +15,8 @@ use kt_tree::ast::{ClassDecl, ClassKeyword, File, Modifier, ModifierKind, Supert
 use sqlite_items::Items;
 use std::alloc::Global;
 
-pub(crate) fn is_modifier(a: ModifierKind, b: ModifierKind) -> bool
+/// Whether two modifiers are one word.
+pub fn is_modifier(a: ModifierKind, b: ModifierKind) -> bool
     ensures { result ≡ same_modifier a b }
 {
     match (a, b) {
@@ -31,13 +32,14 @@ pub(crate) fn is_modifier(a: ModifierKind, b: ModifierKind) -> bool
 }
 
 /// Whether a declaration has the modifier.
-pub(crate) fn is_among(modifiers: &[Modifier], kind: ModifierKind) -> bool
+pub fn is_among(modifiers: &[Modifier], kind: ModifierKind) -> bool
     ensures { result ≡ has_modifier modifiers.now kind }
 {
     modifiers.iter().any(|m| is_modifier(m.kind, kind))
 }
 
-pub(crate) fn kind_of_class(c: &ClassDecl) -> ClassKind
+/// Whether a class is final, open, abstract or an interface, as it is written.
+pub fn kind_of_class(c: &ClassDecl) -> ClassKind
     ensures { result ≡ class_kind c.now }
 {
     let modifiers = c.modifiers.as_slice();
@@ -198,7 +200,8 @@ fn has_class_before(kinds: &[ClassKind], before: &[Option<u32>]) -> bool
     before.iter().any(|named| is_no_interface(kinds, *named))
 }
 
-pub(crate) fn is_interface_keyword(keyword: ClassKeyword) -> bool
+/// Whether the word is `interface`.
+pub fn is_interface_keyword(keyword: ClassKeyword) -> bool
     ensures { result ≡ is_interface_word keyword }
 {
     match keyword {

@@ -8,7 +8,7 @@ use kt_tree::ast::{ClassDecl, ClassParameter, File, Ident, Member, Parameter};
 use std::alloc::Global;
 
 /// The parameters of a class's constructor; none where it has no list.
-pub(crate) fn constructor_parameters(c: &ClassDecl) -> &[ClassParameter]
+pub fn constructor_parameters(c: &ClassDecl) -> &[ClassParameter]
     ensures { result.now ≡ parameters_of c.now }
 {
     match &c.parameters {
@@ -18,7 +18,7 @@ pub(crate) fn constructor_parameters(c: &ClassDecl) -> &[ClassParameter]
 }
 
 /// What stands in a class's braces; nothing where it has none.
-pub(crate) fn class_body(c: &ClassDecl) -> &[Member]
+pub fn class_body(c: &ClassDecl) -> &[Member]
     ensures { result.now ≡ declared_in c.now }
 {
     match &c.members {
