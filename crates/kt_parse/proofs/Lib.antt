@@ -1,2 +1,5 @@
+pub mod KeptNames
 pub mod Laws
+pub mod Parsing
 pub mod Reach
+pub mod Weights
