@@ -3,12 +3,14 @@ use Rattle.std.proofs.Common.{◌≡◌, ℕ, suc, ◌+◌, ◌*◌, ◌<◌, le
 use Rattle.kt_tree.specs.declared.token.Span.{Span}
 use Rattle.kt_model.specs.declared.graph.Tag.{Tag}
 use Rattle.kt_model.specs.declared.graph.Known.TheVariants as known
-use Rattle.kt_model.specs.BodyTrees.{Tree, Trees, Operation, Operation', Name', Paren', Not', And', Or', If', Declare', Local', Assign', Compound', Call', Return', Throw', Shut', Empty', First', Piece, Text', Inserted', expr_tree, branch_trees, stmt_tree, piece, seen, seen_trees, inserted_of, listed, named_there}
+use Rattle.kt_model.specs.BodyTrees.{Tree, Trees, Operation, Operation', Name', Paren', Not', And', Or', If', Declare', Local', Assign', Compound', Call', Return', Throw', Shut', Empty', First', Piece, Text', Inserted', expr_tree, branch_trees, stmt_tree, piece, seen, seen_trees, inserted_of, listed, named_there, Seen, assign_tree, name_span}
 use Rattle.kt_tree.specs.declared.ast.body.Expr.{Expr}
 use Rattle.kt_tree.specs.declared.ast.body.Branch.{Branch}
 use Rattle.kt_tree.specs.declared.ast.body.Stmt.{Stmt}
 use Rattle.kt_tree.specs.declared.ast.body.StringPart.{StringPart}
 use Rattle.kt_model.specs.declared.uses.Named.{Named}
+use Rattle.kt_model.specs.declared.uses.Named.TheVariants as named
+use Rattle.kt_tree.specs.declared.ast.part.Assignment.{Assignment}
 use Rattle.kt_model.specs.ControlFlow as flow
 use Rattle.kt_model.specs.ControlFlow.{Node, Edge, Effects, node, on, nodes, all_nodes, edges, all_edges, in_of, entry_of, returns_of, if_returns, entry_node, params_node, end_node, in_body, body_nodes, body_edges, reads, declares, assigns, last_nodes, last_edges}
 use Rattle.kt_model.specs.Bodies.{node_at, edge_at, edges_at}
@@ -142,6 +144,14 @@ walk_unary {o = o} p w q operation e =
 pub walk_binary : {a b d f g : Builder} {t u : Tree} {n o k m r : ℕ} {sp word : Span} {c : FlowContext} {ex : Exits} → Leaves a b n [] c ex o → WalksTree b d u c (exits.Then (Some o)) k → WalksTree d f t c (exits.Then (Some k)) m → StepsTo f g (in_at n c.copy []) c (Some m) r → (operation : Operation) → returns_of operation ≡ true → WalksTree a g (Operation' (named_there n sp word) operation (First' t (First' u Empty'))) c ex r
 walk_binary {o = o} p v w q operation e =
     walk_operation operation p (same_next (sym (ap (λ t. place_if t o) e)) (walk_first (walk_one v) w)) q
+
+-- an assignment whose left side is no name
+pub unnamed : (m : Named) (n : ℕ) (at word : Span) (b : Bool) (a : Assignment) (e : Option Seen) → b ≡ false → assign_tree m n at (name_span b word) a e ≡ Shut' (named_there n at at)
+unnamed (named.Variable x f) n at word true a e h = cc
+unnamed (named.Variable x f) n at word false a e h = refl
+unnamed (named.Function g r) n at word b a e h = refl
+unnamed (named.BuiltIn g r) n at word b a e h = refl
+unnamed named.Other n at word b a e h = refl
 
 -- ---- trees of a file under other names
 

@@ -1,11 +1,14 @@
 //! The graph of a body.
 ghost use Rattle.std.specs.Prelude.{◌≡◌, ◌+◌, ◌↔◌, ◌++◌, ◌∷◌, [], List, map, length, IfOk, OnOk};
 ghost use Rattle.std.specs.Option.{option_copied};
-ghost use Rattle.std.specs.List.{flat_map, range_with_len};
+ghost use Rattle.std.specs.List.{All, flat_map, range_with_len};
 ghost use Rattle.kt_model.specs.NameUses.{named_at};
 ghost use Rattle.kt_model.specs.BodyTrees.{Trees};
 ghost use Rattle.kt_model.specs.ControlFlow.{bring, body_nodes};
 ghost use Rattle.kt_model.specs.Bodies.{IsGraphOf, IsTooLarge, body_trees_of, owner_parameters, owner_trees, variables_of, declared_by};
+ghost use Rattle.kt_model.specs.NodeKeys.{AreDistinct, AreNumbered};
+ghost use Rattle.kt_model.specs.NodePaths.{IsEdgeWithin};
+ghost use Rattle.kt_model.specs.Sweeps.{IsOnward};
 ghost use Rattle.kt_graph.specs.Building.{IsBuilt, WalksTrees};
 ghost use Rattle.kt_graph.specs.Sizes.{all_size, capped};
 
@@ -229,10 +232,14 @@ fn numbered(alloc: Global, body: &Body<'_>, nodes: u32) -> Result<Graph, NoMemor
 }
 
 /// The control-flow graph of a body: exactly the nodes, effects and edges that the trees of the body have by definition, in the order of a sweep along
-/// the flow. `TooLarge` exactly where it has more nodes than 65,536; a graph of which no facts are known has no targets, so the number of its targets and
+/// the flow. Each edge joins two of the nodes. Where no two trees of the body have one number and none has 0, no two nodes have one tree, tag and copy, and
+/// an edge back leads only to a loop's head or to a hub. `TooLarge` exactly where it has more nodes than 65,536; a graph of which no facts are known has no targets, so the number of its targets and
 /// classes counts nothing yet. It is decided before anything is allocated. `NoMemory` where there is none for the graph.
 pub fn graph(alloc: Global, body: &Body<'_>) -> Result<Graph, GraphFault>
     ensures graph { IfOk result (IsGraphOf (owner_parameters body.now.uses.now body.now.owner) (owner_trees body.now.file.now body.now.uses.now body.now.owner) (length body.now.table.now)) }
+    ensures within { IfOk result (λ g. All (IsEdgeWithin (length g.nodes)) g.edges) }
+    ensures distinct { AreNumbered (owner_trees body.now.file.now body.now.uses.now body.now.owner) → IfOk result (λ g. AreDistinct g.nodes) }
+    ensures onward { AreNumbered (owner_trees body.now.file.now body.now.uses.now body.now.owner) → IfOk result (λ g. All (IsOnward g) g.edges) }
     ensures too_large { (result ≡ Err GraphFault.TooLarge) ↔ IsTooLarge (length (body_nodes (owner_parameters body.now.uses.now body.now.owner) (owner_trees body.now.file.now body.now.uses.now body.now.owner))) 0 (length body.now.table.now) }
 {
     let count = body_count(body.uses, written(body));

@@ -9,7 +9,7 @@ use Rattle.kt_model.specs.ControlFlow.{bring}
 use Rattle.kt_model.proofs.BodyFolds.{tree_of_kind, kind_int, kind_bool, kind_null, kind_name, kind_template, kind_paren, kind_call, kind_call_with, kind_sign, kind_not, kind_sum, kind_arithmetic, kind_compare, kind_equal, kind_and, kind_or, kind_if_any, kind_return_any, kind_return_at_any, kind_throw, kind_other, stmt_expr, stmt_local_any, stmt_assign_any, stmt_while, stmt_do_while, stmt_for, branch_braced, branch_single, piece_text, piece_inserted, block_list}
 use Rattle.kt_model.specs.NameUses.{named_at}
 use Rattle.kt_model.specs.BodyTrees.{Int', Bool', Null', Template', Sign', Sum', Arithmetic', Compare', Equal', BuiltIn', Return', Compound', texts_of, inserted_of, seen_optional, shut, expr_tree, branch_trees, stmt_tree, piece, seen, seen_trees, listed, otherwise, call_tree, local_tree, assign_tree, assigned_tree, name_span, named_there}
-use Rattle.kt_graph.proofs.Walks.{same_tree, same_trees, same_next, expr_at, branch_at, walk_operation, walk_unary, walk_binary, walk_paren, walk_not, walk_and, walk_or, walk_if, walk_throw, walk_return, walk_one, walk_first, walk_empty, walk_call, walk_name, walk_local, walk_assign, walk_compound, walk_declare, walk_piece, stmts_more, exprs_more, pieces_more, leaves_effects, steps_effects}
+use Rattle.kt_graph.proofs.Walks.{same_tree, same_trees, same_next, expr_at, branch_at, walk_operation, walk_unary, walk_binary, walk_paren, walk_not, walk_and, walk_or, walk_if, walk_throw, walk_return, walk_one, walk_first, walk_empty, walk_call, walk_name, walk_local, walk_assign, walk_compound, walk_declare, walk_piece, stmts_more, exprs_more, pieces_more, leaves_effects, steps_effects, unnamed}
 use Rattle.kt_graph.proofs.building.Builder.+walk.Goals as goal
 
 pub expr-returns-in_ok-n-in-Int : goal.expr-returns-in_ok-n-in-Int
@@ -215,3 +215,7 @@ expr-returns-in_ok-n-in-None-label t c =
 pub expr-returns-in_ok-n-in-Some-label : goal.expr-returns-in_ok-n-in-Some-label
 expr-returns-in_ok-n-in-Some-label t c =
     same_tree (tree_of_kind (named_at c.args.uses.now) c.args.e.now _ _ (c.in-Return.is ∙ ap (λ l. e.Return l c.in-Return.value) c.in-Some-label.is) (kind_return_at_any (named_at c.args.uses.now) _ c.in-Return.value)) (c.in_ok-n-in-Some-label.ensures _ _)
+
+pub assign-returns-then-not-is_name : goal.assign-returns-then-not-is_name
+assign-returns-then-not-is_name t c at word =
+    same_tree (unnamed (named_at c.args.uses.now c.args.tree) c.args.tree at word c.args.is_name c.args.assignment _ c.if-not-is_name.true) (c.in_ok-n.ensures at at)
