@@ -7,7 +7,8 @@ pub mod Laws
 pub mod Frames
 pub mod Evaluation
 pub mod WholeRun
+pub mod Programs
+pub mod BodyPaths
+pub mod FileRuns
 pub mod EvaluationLaws
 pub mod WorkedRuns
-pub mod BodyPaths
-pub mod Programs

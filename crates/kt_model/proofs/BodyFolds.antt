@@ -1,5 +1,5 @@
 -- What each tree of a file is as plain data.
-use Rattle.std.proofs.Common.{◌≡◌, ◌≢◌, ℕ, Bool, true, false, List, [], ◌∷◌, map, Option, Some, None, option_map, refl, sym, ap, ◌∙◌, subst}
+use Rattle.std.proofs.Common.{◌≡◌, ◌≢◌, ℕ, Bool, true, false, List, map, Option, Some, None, option_map, refl, sym, ap, ◌∙◌, subst}
 use Rattle.kt_tree.specs.declared.token.Span.{Span}
 use Rattle.kt_tree.specs.declared.ast.part.Ident.{Ident}
 use Rattle.kt_tree.specs.declared.ast.part.TypeRef.{TypeRef}
@@ -28,7 +28,7 @@ use Rattle.kt_tree.specs.declared.ast.body.Branch.TheOpen.{Branch-F, ExprKind-F,
 use Rattle.kt_tree.specs.declared.ast.body.Branch.TheViews as v
 use Rattle.kt_tree.specs.declared.ast.body.Branch.TheFolds.{fold_out-Block, fold-roll-Expr, fold-roll-ExprKind, fold-roll-Stmt, fold-roll-Branch, fold-roll-StringPart}
 use Rattle.kt_model.specs.declared.uses.Named.{Named}
-use Rattle.kt_model.specs.BodyTrees.{Tree, Trees, Piece, Text', Inserted', Seen, SeenKind, Operation', Name', Paren', Not', And', Or', If', Return', Throw', Shut', Empty', First', Int', Bool', Null', Template', Sign', Sum', Arithmetic', Compare', Equal', listed, otherwise, texts_of, inserted_of, seen_trees, seen_optional, plain, operation, shut, whole, named_there, name_tree, name_span, call_tree, local_tree, assign_tree, compound_of, kind_step, stmt_step, branch_step, piece_step, block_step, expr_step, nothing, seen, seen_kind, stmt_tree, block_trees, branch_trees, piece, expr_tree}
+use Rattle.kt_model.specs.BodyTrees.{Tree, Trees, Piece, Text', Inserted', Seen, SeenKind, Paren', Not', And', Or', If', Return', Throw', Shut', Empty', First', Int', Bool', Null', Template', Sign', Sum', Arithmetic', Compare', Equal', listed, otherwise, texts_of, inserted_of, seen_trees, seen_optional, plain, operation, shut, whole, named_there, name_tree, name_span, call_tree, local_tree, assign_tree, kind_step, stmt_step, branch_step, piece_step, block_step, expr_step, nothing, seen, seen_kind, stmt_tree, block_trees, branch_trees, piece, expr_tree}
 
 -- an expression, by its kind
 pub tree_of_kind : (uses : ℕ → Named) (x : Expr) (k : ExprKind) (f : SeenKind) → x.kind ≡ k → seen_kind uses k ≡ f → expr_tree uses x ≡ f.tree_at x.number x.span

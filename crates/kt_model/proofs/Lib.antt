@@ -7,3 +7,5 @@ pub mod MemberLemmas
 pub mod UseLemmas
 pub mod BodyFolds
 pub mod NodeKeyLaws
+pub mod SweepLaws
+pub mod PlaceLaws

@@ -1,9 +1,9 @@
 -- No two nodes of a body have one tree, tag and copy.
-use Rattle.std.proofs.Common.{◌≡◌, ◌≢◌, ℕ, ◌+◌, ◌*◌, ◌≤◌, Bool, true, false, List, [], ◌∷◌, ◌++◌, ◌==◌, cond, inl, inr, refl, sym, ap, ◌∙◌, arith, eq-eqb}
+use Rattle.std.proofs.Common.{◌≡◌, ◌≢◌, ℕ, ◌+◌, ◌*◌, ◌≤◌, Bool, true, false, List, [], ◌∷◌, ◌++◌, ◌==◌, cond, inl, inr, ap, arith, eq-eqb}
 use Rattle.std.proofs.lemmas.Bool.Decides.{eqb_tells}
 use Rattle.kt_model.specs.BodyTrees.{Tree, Trees, Operation', Name', Paren', Not', And', Or', If', Declare', Local', Assign', Compound', Call', Return', Throw', Shut', Empty', First', number}
 use Rattle.kt_model.specs.ControlFlow.{Node, nodes, all_nodes, leave_nodes, in_of, out_of, body_nodes, end_node}
-use Rattle.kt_model.specs.NodeKeys.{only_if, hits, occurs, times, all_times}
+use Rattle.kt_model.specs.NodeKeys.{only_if, hits, occurs, times, all_times, AreNumbered, AreDistinct}
 
 -- a number or nothing
 at_most : (a b x : ℕ) → only_if a b x ≤ x
@@ -105,7 +105,7 @@ mutual
   occurs-all_nodes m g c k (First' t ts) = append m g c (nodes false k t) (all_nodes k ts) _ _ (occurs-nodes m g c false k t) (occurs-all_nodes m g c k ts)
 
 -- the number where the two are the same
-here : (a b x : ℕ) → a ≡ b → only_if a b x ≡ x
+pub here : (a b x : ℕ) → a ≡ b → only_if a b x ≡ x
 unfolding only_if
 here a b x e = ap (λ t. cond t x 0) (eq-eqb a b e)
 
@@ -128,7 +128,7 @@ three_own m g c = elim (eqb_tells m 0) [
 ]
 
 -- Where no number stands at two trees of a body, nor 0 at any, no two of its nodes have one tree, tag and copy.
-pub distinct_nodes : (ps : List ℕ) (ts : Trees) → ((m : ℕ) → only_if m 0 1 + all_times m ts ≤ 1) → (m g c : ℕ) → occurs m g c (body_nodes ps ts) ≤ 1
+pub distinct_nodes : (ps : List ℕ) (ts : Trees) → AreNumbered ts → AreDistinct (body_nodes ps ts)
 distinct_nodes ps ts h m g c =
     let e = occurs-append m g c (all_nodes 0 ts) (end_node ∷ []) in
     let f = occurs-all_nodes m g c 0 ts in

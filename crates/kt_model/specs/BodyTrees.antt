@@ -2,7 +2,7 @@
 --
 -- Shapes that are not open yet fold to `Shut'`. To open one: a constructor here, a clause of each definition over these trees, a law for each of
 -- these definitions.
-use Rattle.std.specs.Prelude.{ℕ, Bool, true, false, List, [], ◌∷◌, map, Option, Some, None, if◌then◌else◌}
+use Rattle.std.specs.Prelude.{ℕ, Bool, true, false, List, [], ◌∷◌, Option, Some, None}
 use Rattle.kt_tree.specs.declared.token.Span.{Span}
 use Rattle.kt_tree.specs.declared.ast.part.Sign.{Sign}
 use Rattle.kt_tree.specs.declared.ast.part.Arithmetic.{Arithmetic}
@@ -16,7 +16,7 @@ use Rattle.kt_tree.specs.declared.ast.body.Stmt.{Stmt}
 use Rattle.kt_tree.specs.declared.ast.body.Block.{Block}
 use Rattle.kt_tree.specs.declared.ast.body.Branch.{Branch}
 use Rattle.kt_tree.specs.declared.ast.body.StringPart.{StringPart}
-use Rattle.kt_tree.specs.declared.ast.body.Branch.TheOpen.{Branch-F, Condition-F, ExprKind-F, Stmt-F, StringPart-F, Block-F, Catch-F, Expr-F, Lambda-F, Subject-F, WhenBranch-F}
+use Rattle.kt_tree.specs.declared.ast.body.Branch.TheOpen.{Branch-F, ExprKind-F, Stmt-F, StringPart-F, Block-F, Expr-F}
 use Rattle.kt_tree.specs.declared.ast.body.Branch.TheFolds.{fold-Expr, fold-ExprKind, fold-Stmt, fold-Block, fold-Branch, fold-StringPart}
 use Rattle.kt_model.specs.declared.uses.Named.{Named}
 use Rattle.kt_model.specs.declared.uses.Named.TheVariants as named

@@ -4,13 +4,12 @@
 -- own. A node is a tree's number, a tag and a copy, and carries its effects; an edge is a pair of nodes. Nodes and edges are lists in the order of a
 -- sweep along the flow: a tree's `in`, its parts in the order of their evaluation, its `out`. Nothing is looked up and nothing is numbered, as the code
 -- does.
-use Rattle.std.specs.Prelude.{ℕ, ◌+◌, ◌*◌, ◌<◌, Bool, true, false, List, [], ◌∷◌, ◌++◌, map, if◌then◌else◌}
+use Rattle.std.specs.Prelude.{ℕ, ◌+◌, ◌*◌, Bool, true, false, List, [], ◌∷◌, ◌++◌}
 use Rattle.std.specs.List.{flat_map}
 use Rattle.kt_model.specs.BodyTrees.{Tree, Trees, Operation', Name', Paren', Not', And', Or', If', Declare', Local', Assign', Compound', Call', Return', Throw', Shut', Empty', First', number, Operation, BuiltIn'}
 use Rattle.kt_model.specs.declared.graph.Fact.{Fact}
 use Rattle.kt_model.specs.declared.graph.Known.{Known}
 use Rattle.kt_model.specs.declared.graph.Known.TheVariants as known
-use Rattle.kt_model.specs.declared.graph.Variable.{Variable}
 use Rattle.kt_model.specs.declared.graph.Variable.TheVariants as variable
 use Rattle.kt_model.specs.declared.graph.FlowEffect.{FlowEffect}
 use Rattle.kt_model.specs.declared.graph.FlowEffect.TheVariants as effect

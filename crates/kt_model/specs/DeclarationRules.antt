@@ -28,7 +28,8 @@ use Rattle.kt_model.specs.declared.finding.Rule.TheVariants.{Duplicate, UnknownT
 use Rattle.kt_model.specs.declared.finding.Finding.{Finding}
 use Rattle.kt_model.specs.Classes.{Classes, IsProperlyAbove}
 use Rattle.kt_model.specs.TopNames.{Tops, built_in_classes, top_names, class_named, head_named}
-use Rattle.kt_model.specs.Sites.{Site, OfType, OfSuper, OfNames, OfFunctions, file_sites}
+use Rattle.kt_model.specs.declared.body_site.BodySite.TheVariants.{Written, Untyped}
+use Rattle.kt_model.specs.Sites.{Site, OfType, OfSuper, OfNames, OfFunctions, OfBody, file_sites}
 
 -- the finding of a rule at a span, where its condition holds
 abbrev pub where_ : Bool → Rule → Span → List Finding
@@ -40,6 +41,8 @@ unknown_type tops (OfType w) = where_ (is_none (head_named tops w.name.name)) Un
 unknown_type tops (OfSuper s) = where_ (is_none (class_named tops s.name.name)) UnknownType s.name.span
 unknown_type tops (OfNames words) = []
 unknown_type tops (OfFunctions fs) = []
+unknown_type tops (OfBody (Written w)) = where_ (is_none (head_named tops w.name.name)) UnknownType w.name.span
+unknown_type tops (OfBody (Untyped x)) = []
 
 -- another word of the list, which stands before it, has the same name
 abbrev pub has_earlier : List Ident → Ident → Bool
@@ -51,6 +54,7 @@ duplicate tops (OfNames words) = flat_map (λ w. where_ (has_earlier words w) Du
 duplicate tops (OfType w) = []
 duplicate tops (OfSuper s) = []
 duplicate tops (OfFunctions fs) = []
+duplicate tops (OfBody s) = []
 
 abbrev pub is_unit : Option Head → Bool
 is_unit (Some UnitHead) = true
@@ -82,6 +86,7 @@ no_main tops (OfFunctions fs) = where_ (not (list_any (is_main tops) fs)) NoMain
 no_main tops (OfNames words) = []
 no_main tops (OfType w) = []
 no_main tops (OfSuper s) = []
+no_main tops (OfBody s) = []
 
 -- all rules that are tried at a site of the declarations
 unfoldable pub declaration_rules : Tops → Site → List Finding

@@ -1,5 +1,5 @@
 -- What the names of a file stand for, as the graph of a body looks at it.
-use Rattle.std.specs.Prelude.{ℕ, Bool, true, false, not, List, Option, Some, None, find, ◌==◌, [], slice_get, unwrap_or}
+use Rattle.std.specs.Prelude.{ℕ, not, List, Option, Some, None, find, ◌==◌, [], slice_get, unwrap_or}
 use Rattle.kt_model.specs.declared.uses.Declaration.{Declaration}
 use Rattle.kt_model.specs.declared.uses.DeclarationKind.TheVariants as kind
 use Rattle.kt_model.specs.declared.uses.UseRow.{UseRow}

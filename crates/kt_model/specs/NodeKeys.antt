@@ -1,5 +1,5 @@
 -- A node of a body is known by its tree, its tag and its copy: how often these three occur among nodes, and how often a number among trees.
-use Rattle.std.specs.Prelude.{ℕ, ◌+◌, Bool, true, false, List, [], ◌∷◌, ◌==◌, if◌then◌else◌}
+use Rattle.std.specs.Prelude.{ℕ, ◌+◌, ◌≤◌, List, [], ◌∷◌, ◌==◌, if◌then◌else◌}
 use Rattle.kt_model.specs.declared.graph.Tag.{Tag}
 use Rattle.kt_model.specs.declared.graph.Tag.TheVariants as tag
 use Rattle.kt_model.specs.BodyTrees.{Tree, Trees, Operation', Name', Paren', Not', And', Or', If', Declare', Local', Assign', Compound', Call', Return', Throw', Shut', Empty', First'}
@@ -60,3 +60,11 @@ abbrev mutual
   pub all_times : ℕ → Trees → ℕ
   all_times m Empty' = 0
   all_times m (First' t rest) = times m t + all_times m rest
+
+-- No number stands at two trees of a body, and 0 at none.
+abbrev pub AreNumbered : Trees → Type 0
+AreNumbered ts = (m : ℕ) → only_if m 0 1 + all_times m ts ≤ 1
+
+-- No two nodes have one tree, tag and copy.
+abbrev pub AreDistinct : List Node → Type 0
+AreDistinct ns = (tree tag copy : ℕ) → occurs tree tag copy ns ≤ 1

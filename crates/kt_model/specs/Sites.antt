@@ -1,4 +1,4 @@
--- The places of a file at which the rules on declarations are tried, in the order of the text.
+-- The places of a file at which the rules on declarations are tried: those of its declarations in the order of the text, then those inside bodies.
 use Rattle.std.specs.Prelude.{List, [], ◌∷◌, ◌++◌, map, Option, Some, None, unwrap_or}
 use Rattle.std.specs.List.{flat_map, filter_map}
 use Rattle.std.specs.Option.{option_map}
@@ -15,6 +15,14 @@ use Rattle.kt_tree.specs.declared.ast.declaration.ParameterType.{ParameterType}
 use Rattle.kt_tree.specs.declared.ast.declaration.ParameterType.TheVariants.{Value, Function as FunctionType}
 use Rattle.kt_tree.specs.declared.ast.declaration.Member.{Member}
 use Rattle.kt_tree.specs.declared.ast.declaration.Member.TheVariants.{Init, Function, Property}
+use Rattle.kt_tree.specs.declared.ast.declaration.FunctionBody.{FunctionBody}
+use Rattle.kt_tree.specs.declared.ast.declaration.FunctionBody.TheVariants as body
+use Rattle.kt_tree.specs.declared.ast.declaration.Contract.{Contract}
+use Rattle.kt_tree.specs.declared.ast.declaration.EffectKind.{EffectKind}
+use Rattle.kt_tree.specs.declared.ast.declaration.EffectKind.TheVariants.{Returns, CallsInPlace}
+use Rattle.kt_tree.specs.declared.ast.body.Expr.{Expr}
+use Rattle.kt_model.specs.declared.body_site.BodySite.{BodySite}
+use Rattle.kt_model.specs.TreeSites.{BodySites, expr_sites, block_sites}
 
 pub data Site : Type 0 where
   -- a written type
@@ -25,6 +33,8 @@ pub data Site : Type 0 where
   OfNames : List Ident → Site
   -- the functions of the file
   OfFunctions : List FunctionDecl → Site
+  -- what a rule looks at inside a body
+  OfBody : BodySite → Site
 
 -- the parameters of a class's constructor, and its members
 abbrev pub parameters_of : ClassDecl → List ClassParameter
@@ -78,6 +88,50 @@ class_sites c =
 unfoldable pub top_words : File → List Ident
 top_words file = map (λ c. c.name) file.classes ++ map (λ f. f.name) file.functions
 
+-- ---- inside bodies
+
+-- the conditions of a contract are trees too
+abbrev pub effect_sites : EffectKind → BodySites
+effect_sites (Returns returned condition) = expr_sites condition
+effect_sites (CallsInPlace parameter kind) = []
+
+abbrev pub contract_sites : Option Contract → BodySites
+contract_sites None = []
+contract_sites (Some c) = flat_map (λ e. effect_sites e.kind) c.effects
+
+abbrev pub sites_in_body : FunctionBody → BodySites
+sites_in_body (body.Expr e) = expr_sites e
+sites_in_body (body.Block contract block) = contract_sites contract ++ block_sites block
+
+abbrev pub sites_in_function : Option FunctionBody → BodySites
+sites_in_function None = []
+sites_in_function (Some b) = sites_in_body b
+
+abbrev pub sites_in_value : Option Expr → BodySites
+sites_in_value None = []
+sites_in_value (Some e) = expr_sites e
+
+abbrev pub sites_in_getter : Option Getter → BodySites
+sites_in_getter None = []
+sites_in_getter (Some g) = sites_in_body g.body
+
+abbrev pub sites_in_member : Member → BodySites
+sites_in_member (Init block) = block_sites block
+sites_in_member (Function f) = sites_in_function f.body
+sites_in_member (Property p) = sites_in_value p.value ++ sites_in_getter p.getter
+
+-- the arguments of a supertype
+abbrev pub sites_in_super : Supertype → BodySites
+sites_in_super s = flat_map expr_sites (unwrap_or s.arguments [])
+
+unfoldable pub sites_in_class : ClassDecl → BodySites
+sites_in_class c = flat_map sites_in_super c.supertypes ++ flat_map sites_in_member (declared_in c)
+
+-- what the rules on declarations look at inside the bodies of a file
+unfoldable pub body_sites : File → BodySites
+body_sites file =
+    flat_map sites_in_class file.classes ++ flat_map (λ f. sites_in_function f.body) file.functions
+
 unfoldable pub file_sites : File → List Site
 file_sites file =
-    OfNames (top_words file) ∷ OfFunctions file.functions ∷ flat_map class_sites file.classes ++ flat_map function_sites file.functions
+    OfNames (top_words file) ∷ OfFunctions file.functions ∷ flat_map class_sites file.classes ++ flat_map function_sites file.functions ++ map OfBody (body_sites file)

@@ -3,10 +3,13 @@
 //! contract is that of `ClassTable`: a table is settled.
 #![tactic(auto)]
 
+pub mod body_site;
 pub mod class_table;
+pub mod dead;
 pub mod finding;
 pub mod graph;
 pub mod kinds;
+pub mod modified;
 pub mod name_events;
 pub mod status;
 pub mod top_names;

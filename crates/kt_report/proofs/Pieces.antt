@@ -1,16 +1,9 @@
 -- The pieces of a report, one behind another.
-use Rattle.std.proofs.Common.{◌≡◌, ℕ, List, [], ◌++◌, take, ap, ◌∙◌}
-use Rattle.std.specs.Prelude.{codes, decimal}
+use Rattle.std.proofs.Common.{◌≡◌, ℕ, List, [], ◌++◌, ap, ◌∙◌}
+use Rattle.std.specs.Prelude.{codes}
 use Rattle.kt_model.specs.Codes.{code_of, text_of}
 use Rattle.kt_model.specs.declared.finding.Finding.{Finding}
-use Rattle.kt_report.specs.Report.{place_of, line_after, column_after, report_of}
-
--- a place by its line and its column
-pub place_is : (source front : List ℕ) (at line column : ℕ) → front ≡ take at source → line ≡ line_after front → column ≡ column_after front
-    → decimal line ++ codes ":" ++ decimal column ≡ place_of source at
-place_is source front at line column e l k =
-    ap (λ n. decimal n ++ codes ":" ++ decimal column) l ∙ ap (λ n. decimal (line_after front) ++ codes ":" ++ decimal n) k
-    ∙ ap (λ f. decimal (line_after f) ++ codes ":" ++ decimal (column_after f)) e
+use Rattle.kt_report.specs.Report.{place_of, report_of}
 
 -- what was put behind what so far
 pub pieces : (source : List ℕ) (f : Finding) (t0 t1 t2 t3 t4 t5 t6 t7 t8 start end code text : List ℕ) → t0 ≡ [] → t1 ≡ t0 ++ start → t2 ≡ t1 ++ codes "-" → t3 ≡ t2 ++ end

@@ -1,7 +1,5 @@
-use Rattle.std.specs.Ordering.{nat_cmp}
 use Rattle.std.proofs.Common.{rules}
 use Rattle.std.proofs.lemmas.Fn.{always_returns_same}
-use Rattle.kt_model.specs.declared.uses.UseRow.{UseRow}
 use Rattle.kt_model.proofs.UseLemmas.{rising, searchable, search_found, search_failed}
 use Rattle.kt_model.proofs.uses.row_of.Goals as goal
 
