@@ -7,8 +7,8 @@
 -- A wrong use is: a local that holds nothing is read; a `val` or parameter that holds a value is assigned; an operand is of another kind than its operator
 -- needs; an argument, an assigned or a returned value lies outside the written type; a dead tree is entered; a function whose result isn't `Unit` ends
 -- without a value. There are no types in a state: what a value is, is looked at here each time, and never in the code.
-use Rattle.std.specs.Prelude.{ℕ, zero, suc, ◌+◌, ◌-◌, ◌==◌, nat_lt, ℤ, pos, neg_ℤ, ◌+ℤ◌, ◌-ℤ◌, ◌*ℤ◌, Bool, true, false, ◌&&◌, ◌||◌, not, Option, Some, None, List, [], ◌∷◌, ◌++◌, codes, if◌then◌else◌}
-use Rattle.std.specs.Int.{w32, int_wrap}
+use Rattle.std.specs.Prelude.{ℕ, zero, suc, ◌+◌, ◌-◌, ◌==◌, nat_lt, ℤ, pos, Bool, true, false, ◌&&◌, ◌||◌, not, Option, Some, None, List, [], ◌∷◌, ◌++◌, codes, if◌then◌else◌}
+use Rattle.std.specs.Int.{w32, int_wrapping_add, int_wrapping_sub, int_wrapping_mul, int_wrapping_neg}
 use Rattle.std.specs.Fmt.{signed_decimal}
 use Rattle.kt_tree.specs.declared.ast.part.Sign.{Sign}
 use Rattle.kt_tree.specs.declared.ast.part.Sign.TheVariants as sign
@@ -105,11 +105,7 @@ write fixed x v = λ s. write_over fixed (s.here.locals x) x v s
 unfoldable pub print : List ℕ → Run Value
 print text = λ s. record { ending = Gave value.Unit s; events = Printed text ∷ [] }
 
--- ---- operations on values
-
--- a number as an `Int`, which has 32 bits: its remainder modulo 2 ^ 32 that lies from -2 ^ 31 on, below 2 ^ 31
-abbrev pub int_of : ℤ → Value
-int_of z = value.Int (int_wrap w32 z)
+-- ---- operations on values; Int has 32 bits and wraps
 
 abbrev pub on_one : (ℤ → Run Value) → List Value → Run Value
 on_one f (value.Int a ∷ []) = f a
@@ -119,14 +115,14 @@ abbrev pub on_two : (ℤ → ℤ → Run Value) → List Value → Run Value
 on_two f (value.Int a ∷ value.Int b ∷ []) = f a b
 on_two f _ = wrong
 
-abbrev pub signed : Sign → ℤ → Value
-signed sign.Minus a = int_of (neg_ℤ a)
-signed sign.Plus a = value.Int a
+abbrev pub signed : Sign → ℤ → ℤ
+signed sign.Minus a = int_wrapping_neg w32 a
+signed sign.Plus a = a
 
 -- Division comes with exceptions.
 abbrev pub arithmetic_of : Arithmetic → ℤ → ℤ → Run Value
-arithmetic_of arithmetic.Subtract a b = pure (int_of (a -ℤ b))
-arithmetic_of arithmetic.Multiply a b = pure (int_of (a *ℤ b))
+arithmetic_of arithmetic.Subtract a b = pure (value.Int (int_wrapping_sub w32 a b))
+arithmetic_of arithmetic.Multiply a b = pure (value.Int (int_wrapping_mul w32 a b))
 arithmetic_of _ a b = wrong
 
 -- the numbers of the names of the built-in functions
@@ -145,8 +141,8 @@ built_in name _ = wrong
 -- The operations that are not here are not open yet.
 abbrev pub operated : Operation → List Value → Run Value
 operated (Int' k) [] = pure (value.Int (pos k))
-operated (Sign' s) vs = on_one (λ a. pure (signed s a)) vs
-operated Sum' vs = on_two (λ a b. pure (int_of (a +ℤ b))) vs
+operated (Sign' s) vs = on_one (λ a. pure (value.Int (signed s a))) vs
+operated Sum' vs = on_two (λ a b. pure (value.Int (int_wrapping_add w32 a b))) vs
 operated (Arithmetic' o) vs = on_two (arithmetic_of o) vs
 operated (BuiltIn' name returns) vs = built_in name vs
 operated _ vs = wrong

@@ -18,7 +18,7 @@ no_locals x = None
 
 -- the same locals, but for one
 abbrev pub with_local : Locals → ℕ → Option Value → Locals
-with_local locals x o y = if nat_eq x y then o else locals y
+with_local locals x o y = if nat_eq y x then o else locals y
 
 pub record Frame : Type 0 where
   pub locals : Locals

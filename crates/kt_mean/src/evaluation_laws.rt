@@ -1,5 +1,5 @@
 //! Laws of the meaning of bodies.
-ghost use Rattle.kt_mean.specs.EvaluationLaws.{DepthIsNoPart, MeaningUnfolds, OneRun, WholeIsMeaning};
+ghost use Rattle.kt_mean.specs.EvaluationLaws.{AllNumbersWrap, DepthIsNoPart, MeaningUnfolds, OneRun, WholeIsMeaning};
 ghost use Rattle.kt_mean.specs.WorkedRuns.{WorkedRuns};
 
 /// The number that bounds the depth of an evaluation is no part of the meaning: any number from the steps left on gives the same.
@@ -25,4 +25,9 @@ pub fn one_run_of_file()
 /// Runs that are worked out by hand come out as they should.
 pub fn worked_runs()
     ensures { WorkedRuns }
+{}
+
+/// Sums, differences, products and negations of numbers of 32 bits are those of mathematics, as numbers of 32 bits.
+pub fn numbers_wrap()
+    ensures { AllNumbersWrap }
 {}

@@ -8,7 +8,8 @@ pub mod states;
 mod value;
 
 pub use evaluation_laws::{
-    depth_bound_is_no_part, meaning_unfolds, one_run_of_file, whole_is_meaning, worked_runs,
+    depth_bound_is_no_part, meaning_unfolds, numbers_wrap, one_run_of_file, whole_is_meaning,
+    worked_runs,
 };
 pub use laws::{depth_is_no_part, one_run};
 pub use value::{Limit, RunEnding, Value};

@@ -1,6 +1,7 @@
 -- All laws together, and from the entry of each body.
-use Rattle.std.proofs.Common.{IsSome, ◌≡◌, ◌⊎◌, ℕ, zero, suc, ◌-◌, ◌==◌, is_some, Bool, true, false, if◌then◌else◌, Option, Some, None, option_map, slice_get, List, [], ◌∷◌, ◌++◌, Contains, inl, inr, refl, sym, ap, subst, ◌∙◌, true≢false}
-use Rattle.std.proofs.lemmas.Bool.{false≢true}
+use Rattle.std.proofs.Common.{IsSome, position, ◌<◌, length, nat_lt, cond, arith, ◌≡◌, ◌⊎◌, ℕ, zero, suc, ◌-◌, ◌==◌, is_some, Bool, true, false, if◌then◌else◌, Option, Some, None, option_map, slice_get, List, [], ◌∷◌, ◌++◌, Contains, inl, inr, refl, sym, ap, subst, ◌∙◌, true≢false}
+use Rattle.std.specs.List.{position_or_len}
+use Rattle.std.proofs.lemmas.Bool.{false≢true, ltb-true}
 use Rattle.kt_tree.specs.declared.ast.declaration.File.{File}
 use Rattle.kt_tree.specs.declared.ast.declaration.FunctionBody.{FunctionBody}
 use Rattle.kt_tree.specs.declared.ast.declaration.FunctionBody.TheVariants as written
@@ -27,7 +28,8 @@ use Rattle.kt_sound.specs.TreesWithin.{all_trees_in}
 use Rattle.kt_sound.specs.FlowOfBody.{IsFine}
 use Rattle.kt_model.specs.declared.graph.Tag.TheVariants.{In}
 use Rattle.kt_mean.specs.BodyPaths.{IsNodePath}
-use Rattle.kt_mean.specs.Programs.{is_expression, function_of, IsDeadTree}
+use Rattle.kt_mean.specs.Programs.{is_expression, function_of, function_at}
+use Rattle.kt_mean.specs.FileRuns.{IsDeadTree}
 use Rattle.kt_sound.specs.BodySoundness.{IsAcceptedBody, IsAcceptedProgram, BodiesNeverWrong}
 use Rattle.kt_sound.proofs.TypingSteps.{none-some, some-some, written_trees}
 use Rattle.kt_sound.proofs.NoFinding.{not_open_none}
@@ -158,12 +160,15 @@ module _ (file : File) (classes : Classes) (uses : Resolved) (p : Program) (a : 
   abbrev edges_of : FunctionDecl → List Edge
   edges_of d = body_edges [] (trees_of d)
 
+  functions_are : (place : ℕ) → p.functions place ≡ function_at file uses place
+  functions_are place = ap (λ (q : Program). q.functions place) a.is_program.program
+
   -- a tree that is entered along a path is not marked as dead
   alive_at : (place : ℕ) (d : FunctionDecl) → slice_get file.functions place ≡ Some d → parameters_at uses place ≡ [] → (n : Node) (path : List Node) → IsNodePath (edges_of d) (n ∷ path) → n.tag ≡ In
       → (b : Bool) → p.dead n.tree ≡ b → b ≡ false
   alive_at place d e none n path walked tag false i = refl
   alive_at place d e none n path walked tag true i =
-      let dead : IsDeadTree file uses n.tree = (a.is_program.dead n.tree).0 i in
+      let dead : IsDeadTree file uses n.tree = (a.is_program.is_dead n.tree).0 (sym (ap (λ (q : Program). q.dead n.tree) a.is_program.program) ∙ i) in
       absurd (dead.unreached place (function_of uses place d) n path (ap (λ o. option_map (function_of uses place) o) e)
       (subst (λ xs. IsNodePath (body_edges xs (trees_of d)) (n ∷ path)) (sym none) walked) refl tag)
 
@@ -229,13 +234,36 @@ module _ (file : File) (classes : Classes) (uses : Resolved) (p : Program) (a : 
   callees_of place f s e i = by (slice_get file.functions place) refl
     where
       by : (o : Option FunctionDecl) → slice_get file.functions place ≡ o → Callee p context f × ((s.most ≡ 0) × (s.result ≡ unit))
-      by None g = absurd (none-some f (sym (a.is_program.functions place ∙ ap (λ z. option_map (function_of uses place) z) g) ∙ e))
+      by None g = absurd (none-some f (sym (functions_are place ∙ ap (λ z. option_map (function_of uses place) z) g) ∙ e))
       by (Some d) g =
-          let same : function_of uses place d ≡ f = some-some (function_of uses place d) f (sym (a.is_program.functions place ∙ ap (λ z. option_map (function_of uses place) z) g) ∙ e) in
+          let same : function_of uses place d ≡ f = some-some (function_of uses place d) f (sym (functions_are place ∙ ap (λ z. option_map (function_of uses place) z) g) ∙ e) in
           let can = open_is (parameters_at uses place) (declaration_type uses (function_place place)) s i in
-          (subst (λ z. Callee p context z) same (callee_of place d s g can (subst (λ z. IsAcceptedBody file classes uses p place z) (sym same) (a.bodies place f (sym (a.is_program.functions place) ∙ e)))), (can.most, can.gives))
+          (subst (λ z. Callee p context z) same (callee_of place d s g can (subst (λ z. IsAcceptedBody file classes uses p place z) (sym same) (a.bodies place f (sym (functions_are place) ∙ e)))), (can.most, can.gives))
 
 -- ---- a whole run
+
+found_within : {A : Type 0} (test : A → Bool) (xs : List A) (i : ℕ) → position test xs ≡ Some i → i < length xs
+found_within test xs i e = by (nat_lt (position_or_len test xs) (length xs)) refl e
+  where
+    by : (b : Bool) → nat_lt (position_or_len test xs) (length xs) ≡ b → cond b (Some (position_or_len test xs)) None ≡ Some i → i < length xs
+    by true h f = subst (λ k. k < length xs) (some-some _ i f) (ltb-true _ _ h)
+    by false h f = absurd (none-some i f)
+
+there_is : {A : Type 0} (xs : List A) (i : ℕ) → i < length xs → IsSome (slice_get xs i)
+there_is [] i h = absurd (omega arith)
+there_is (x ∷ xs) zero h = refl
+there_is (x ∷ xs) (suc i) h = there_is xs i (omega arith)
+
+some_mapped : {A B : Type 0} (f : A → B) (o : Option A) → IsSome o → IsSome (option_map f o)
+some_mapped f None h = absurd (false≢true h)
+some_mapped f (Some x) h = refl
+
+-- the program has its `main`
+has_main : (file : File) (classes : Classes) (uses : Resolved) (p : Program) → IsAcceptedProgram file classes uses p → IsSome (p.functions p.main)
+has_main file classes uses p a =
+    let main = a.is_program.main in
+    let there = some_mapped (function_of uses main) (slice_get file.functions main) (there_is file.functions main (found_within _ file.functions main a.is_program.is_main)) in
+    subst (λ (q : Program). IsSome (q.functions q.main)) (sym a.is_program.program) there
 
 not_wrong : (here : Frame) (e : Ending Value) → CallPost here e → NotWrong e
 not_wrong here (Gave v s) h = tt
@@ -246,9 +274,9 @@ not_wrong here Wrong h = h
 pub bodies_never : BodiesNeverWrong
 bodies_never file classes uses p steps input a =
     let cx = context_of classes uses in
-    let set : Setting p cx = record { built_in = a.built_in; written = a.is_program.written } in
+    let set : Setting p cx = record { built_in = a.built_in; written = λ x. ap (λ (q : Program). q.written x) a.is_program.program } in
     let callees = callees_of file classes uses p a in
-    let f = some_of (p.functions p.main) (subst (λ o. IsSome o) (sym (a.is_program.functions p.main)) a.has_main) in
+    let f = some_of (p.functions p.main) (has_main file classes uses p a) in
     let s = some_of (signature_of uses p.main) a.main in
     let kept = calls_keep p cx callees (eval p steps) (keeps_eval p cx set callees steps) p.main f.0 s.0 f.1 s.1 in
     called_ends (λ (e : Ending Value). NotWrong e) p (eval p steps) (p.functions p.main) f.0 (start steps input) f.1 kept.parameters tt

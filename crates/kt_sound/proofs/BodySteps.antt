@@ -1,6 +1,6 @@
 -- Steps along edges, and how a tree's end follows from its parts'.
-use Rattle.std.proofs.Common.{◌≡◌, ℕ, nat_eq, is_some, Bool, true, false, if◌then◌else◌, Option, Some, List, [], ◌∷◌, ◌++◌, ◌⊎◌, inl, inr, refl, sym, subst, ◌∙◌}
-use Rattle.std.proofs.lemmas.Bool.{eqb-true}
+use Rattle.std.proofs.Common.{ap, ◌≡◌, ℕ, nat_eq, is_some, Bool, true, false, if◌then◌else◌, Option, Some, List, [], ◌∷◌, ◌++◌, ◌⊎◌, inl, inr, refl, sym, subst, ◌∙◌}
+use Rattle.std.proofs.lemmas.Bool.{cases_Bool, eqb-true, eqb-false, eq-eqb, ne_eqb}
 use Rattle.kt_model.specs.BodyTrees.{Tree, Trees, Empty', First', Operation', Name', Paren', Not', And', Or', If', Declare', Local', Assign', Compound', Call', Return', Throw', Shut'}
 use Rattle.kt_model.specs.ControlFlow.{Node, Edge, FlowContext, Exits, Then, Branch, in_of, out_of, assume, lead, on, leave_edges, edges, all_edges, entry_of}
 use Rattle.kt_model.specs.NodePaths.{assigned_after}
@@ -47,6 +47,12 @@ leads_of {all} context n ms w = leads_to all n ms (left_each all (lead n ms) _ w
 
 -- ---- effects
 
+nat_eq-sym : (x y : ℕ) → nat_eq x y ≡ nat_eq y x
+nat_eq-sym x y = elim (cases_Bool (nat_eq x y)) [
+  | inl e ↦ e ∙ sym (eq-eqb y x (sym (eqb-true x y e)))
+  | inr e ↦ e ∙ sym (ne_eqb y x (λ i. eqb-false x y e (sym i)))
+]
+
 -- a frame agrees with a path also behind a node that changes nothing
 pub same_agrees : {locals : LocalTypes} (n : Node) (path : List Node) (f : Frame) → ((x : Variable) (b : Bool) → assigned_after n.effects x b ≡ b) → Agrees locals path f → Agrees locals (n ∷ path) f
 same_agrees n path f h a = record { held = λ x. a.held x ∙ sym (h (Local x) (assigned_on path (Local x))); typed = a.typed }
@@ -54,6 +60,9 @@ same_agrees n path f h a = record { held = λ x. a.held x ∙ sym (h (Local x) (
 held_put : (b c : Bool) (o o' : Option Value) (d : Bool) → is_some o' ≡ d → is_some o ≡ c → is_some (if b then o' else o) ≡ (if b then d else c)
 held_put true c o o' d i h = i
 held_put false c o o' d i h = h
+
+flipped : {A : Type 0} (x y : ℕ) (a b : A) → (if nat_eq y x then a else b) ≡ (if nat_eq x y then a else b)
+flipped x y a b = ap (λ t. if t then a else b) (nat_eq-sym y x)
 
 typed_put : (b : Bool) (o o' : Option Value) (v : Value) → (if b then o' else o) ≡ Some v → ((b ≡ true) × (o' ≡ Some v)) ⊎ (o ≡ Some v)
 typed_put true o o' v e = inl (refl, e)
@@ -65,8 +74,8 @@ pub put_agrees : {locals : LocalTypes} (n : Node) (path : List Node) (f : Frame)
     → ((v : Value) (t : KtType) → o ≡ Some v → look_up locals x ≡ Some (Some t) → Lies v t)
     → Agrees locals path f → Agrees locals (n ∷ path) (record { locals = with_local f.locals x o })
 put_agrees {locals} n path f x o d i effects lies a = record {
-  held = λ y. held_put (nat_eq x y) (assigned_on path (Local y)) (f.locals y) o d i (a.held y) ∙ sym (effects y (assigned_on path (Local y)));
-  typed = λ y v t e l. elim (typed_put (nat_eq x y) (f.locals y) o v e) [
+  held = λ y. ap (λ z. is_some z) (flipped x y o (f.locals y)) ∙ held_put (nat_eq x y) (assigned_on path (Local y)) (f.locals y) o d i (a.held y) ∙ sym (effects y (assigned_on path (Local y)));
+  typed = λ y v t e l. elim (typed_put (nat_eq x y) (f.locals y) o v (sym (flipped x y o (f.locals y)) ∙ e)) [
     | inl h ↦ lies v t h.1 (subst (λ z. look_up locals z ≡ Some (Some t)) (sym (eqb-true x y h.0)) l)
     | inr h ↦ a.typed y v t h l
   ];

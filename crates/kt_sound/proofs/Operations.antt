@@ -1,7 +1,6 @@
 -- Operations on values of the types that they ask for.
 use Rattle.std.proofs.Common.{◌≡◌, ℕ, ℤ, pos, suc, ◌==◌, nat_le, ◌&&◌, Bool, true, false, Option, Some, None, List, [], ◌∷◌, option_map, inl, inr, refl, sym, subst, arith}
 use Rattle.std.proofs.lemmas.Bool.{cases_Bool, eqb-true, leb-true, false≢true}
-use Rattle.kt_tree.specs.declared.ast.part.Sign.TheVariants as sign
 use Rattle.kt_tree.specs.declared.token.Span.{Span}
 use Rattle.kt_tree.specs.declared.ast.part.Sign.{Sign}
 use Rattle.kt_tree.specs.declared.ast.part.Arithmetic.TheVariants as arithmetic
@@ -17,7 +16,7 @@ use Rattle.kt_model.specs.Typing.{Ways, Each, Then, Signature, built_in_signatur
 use Rattle.kt_mean.specs.declared.states.Value.{Value}
 use Rattle.kt_mean.specs.declared.states.Value.TheVariants as value
 use Rattle.kt_mean.specs.Frames.{State, Gave, Run, pure}
-use Rattle.kt_mean.specs.Evaluation.{signed, print, on_one, on_two, arithmetic_of, built_in, operated}
+use Rattle.kt_mean.specs.Evaluation.{print, on_one, on_two, arithmetic_of, built_in, operated}
 use Rattle.kt_sound.specs.BodySoundness.{HasBuiltInClasses}
 use Rattle.kt_sound.proofs.NoFinding.{Under}
 use Rattle.kt_sound.proofs.ValueTypes.{Lies, lies_above, int_of, no_texts}
@@ -176,15 +175,11 @@ int_yields cx n k locals Empty' d [] e g = subst (λ t. Yields (pure (value.Int 
 int_yields cx n k locals Empty' d (v ∷ vs) e g = absurd g
 int_yields cx n k locals (First' a rest) d vs e g = absurd (too_many (suc (count rest)) 0 n _ int d (λ i. omega arith) e)
 
-sign_lies : (s : Sign) (k : ℤ) → Lies (signed s k) int
-sign_lies sign.Minus k = refl
-sign_lies sign.Plus k = refl
-
 sign_yields : (cx : TypeContext) (n : Mark) (s : Sign) (locals : LocalTypes) (ts : Trees) (d : KtType) (vs : List Value) → (demand_if (count ts == 1) n (Each (Checked int)) int).claim ≡ claim.Gives d
     → AllGive (demand_if (count ts == 1) n (Each (Checked int)) int).ways (all_judged cx (demand_if (count ts == 1) n (Each (Checked int)) int).ways locals ts).each_found vs → Yields (operated (Sign' s) vs) d
 unfolding all_judged
 sign_yields cx n s locals Empty' d vs e g = absurd (breaks-gives _ _ d e)
-sign_yields cx n s locals (First' a Empty') d vs e g = subst (λ t. Yields (operated (Sign' s) vs) t) (gives-gives int d e) (one_int _ _ vs (λ k. pure_yields (signed s k) int (sign_lies s k)) g)
+sign_yields cx n s locals (First' a Empty') d vs e g = subst (λ t. Yields (operated (Sign' s) vs) t) (gives-gives int d e) (one_int _ _ vs (λ k. pure_yields _ int refl) g)
 sign_yields cx n s locals (First' a (First' b rest)) d vs e g = absurd (too_many (suc (suc (count rest))) 1 n _ int d (λ i. omega arith) e)
 
 -- An operation on values of the types that it asks for gives a value of its type.

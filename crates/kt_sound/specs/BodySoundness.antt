@@ -9,7 +9,8 @@ use Rattle.kt_model.specs.Typing.{signature_of, body_judged}
 use Rattle.kt_model.specs.declared.uses.Owner.TheVariants as owner
 use Rattle.kt_mean.specs.Frames.{NotWrong}
 use Rattle.kt_mean.specs.Evaluation.{Function, Program}
-use Rattle.kt_mean.specs.Programs.{functions_of, IsProgram}
+use Rattle.kt_mean.specs.Programs.{function_at}
+use Rattle.kt_mean.specs.FileRuns.{IsProgram}
 use Rattle.kt_mean.specs.WholeRun.{whole}
 use Rattle.kt_sound.specs.TreesWithin.{all_trees_in, called_by, returns_at}
 use Rattle.kt_sound.specs.FlowOfBody.{IsFine}
@@ -38,8 +39,7 @@ pub record HasBuiltInClasses (classes : Classes) : Type 0 where
 pub record IsAcceptedProgram (file : File) (classes : Classes) (uses : Resolved) (p : Program) : Type 0 where
   pub is_program : IsProgram file uses p
   pub built_in : HasBuiltInClasses classes
-  pub bodies : (place : ℕ) (f : Function) → functions_of file uses place ≡ Some f → IsAcceptedBody file classes uses p place f
-  pub has_main : IsSome (functions_of file uses p.main)
+  pub bodies : (place : ℕ) (f : Function) → function_at file uses place ≡ Some f → IsAcceptedBody file classes uses p place f
   pub main : IsSome (signature_of uses p.main)
 
 -- The run of an accepted program never ends by a wrong use.
