@@ -8,7 +8,8 @@ use Rattle.kt_tree.specs.declared.grammar.fault.ParseFault.TheVariants.{Syntax, 
 use Rattle.kt_tree.specs.Derives.{Derives, FaultAt, Answers, Only}
 use Rattle.kt_build.specs.File.{file_of}
 use Rattle.kt_parse.specs.Parsed.{Parsed, OnlyParsed, DerivesFile}
-use Rattle.kt_parse.proofs.Laws.{only}
+use Rattle.kt_tree.specs.declared.grammar.phrase.State.{State}
+use Rattle.kt_parse.proofs.Laws.{only, same}
 
 abbrev read_as : Phrase → Result Phrase ParseFault
 read_as p = Ok p
@@ -61,3 +62,20 @@ only_parsed ts (Err NoMemory) a = record {
   file = λ g d ne. absurd (ne refl);
   fault = λ f d ne. absurd (ne refl);
 }
+
+-- ---- of two derivations from one list of tokens
+
+abbrev ended : ParseFault → Result State ParseFault
+ended f = Err f
+
+ends_same : (f g : ParseFault) → ended f ≡ ended g → f ≡ g
+ends_same f g e = cc
+
+pub one_derived : (ts : Tokens) (a b : File) → DerivesFile ts a → DerivesFile ts b → a ≡ b
+one_derived ts a b d e = d.2 ∙ ap (file_of ts) (one_phrase ts d.0 e.0 d.1 e.1) ∙ sym e.2
+
+pub one_place : (ts : Tokens) (f g : ParseFault) → FaultAt ts f → FaultAt ts g → f ≡ g
+one_place ts f g d e = ends_same f g (same d e)
+
+pub never_both : (ts : Tokens) (file : File) (f : ParseFault) → DerivesFile ts file → FaultAt ts f → ⊥
+never_both ts file f d e = not_both ts d.0 f d.1 e

@@ -5,6 +5,7 @@
 
 mod engine;
 mod files;
+mod laws;
 mod lexed;
 mod make;
 mod pending;
@@ -16,4 +17,5 @@ mod tests;
 pub use engine::read;
 pub use files::parse;
 pub use kt_tree::grammar::ParseFault;
+pub use laws::files_are_determined;
 pub use lexed::names_are_kept;
