@@ -6,6 +6,8 @@ mod declarations;
 mod events;
 mod resolver;
 mod scopes;
+#[cfg(test)]
+mod tests;
 mod uses;
 
 pub use uses::resolve;
