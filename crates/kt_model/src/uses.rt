@@ -149,10 +149,10 @@ impl Uses {
     }
 
     /// The type that is written at a declaration, by its place; `None` where none is written, or there is no such declaration.
-    pub fn written(&self, declaration: u32) -> Option<KtType>
+    pub fn written(&self, declaration: usize) -> Option<KtType>
         ensures { result ≡ option_and_then (λ d. d.written) (slice_get self.now.declared declaration) }
     {
-        match self.declarations.as_slice().get(declaration as usize) {
+        match self.declarations.as_slice().get(declaration) {
             Some(declared) => declared.written,
             None => None,
         }

@@ -1,0 +1,4 @@
+pub mod Supers
+pub mod Passing
+pub mod OtherNames
+pub mod Whole

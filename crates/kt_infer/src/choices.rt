@@ -1,0 +1,236 @@
+//! The choices by which a tree gets its type, where its parts have theirs.
+ghost use Rattle.std.specs.Prelude.{◌≡◌, ◌&&◌, Bool, Option, is_some};
+ghost use Rattle.kt_tree.specs.declared.token.Span.{Span};
+ghost use Rattle.kt_model.specs.Classes.{outlines, written};
+ghost use Rattle.kt_model.specs.BodyTrees as body;
+ghost use Rattle.kt_model.specs.Typing as spec;
+
+use crate::subtypes::is_subtype;
+use kt_model::class_table::ClassTable;
+use kt_model::finding::Rule;
+use kt_model::kinds::{Head, KtType};
+use kt_model::typing::{Claim, Operator, Outcome, Way};
+use kt_tree::Span;
+use kt_tree::ast::Arithmetic;
+
+/// `Int`
+pub const INT: KtType = KtType {
+    head: Head::Int,
+    nullable: false,
+};
+
+/// `String`
+pub const STRING: KtType = KtType {
+    head: Head::Str,
+    nullable: false,
+};
+
+/// `Unit`
+pub const UNIT: KtType = KtType {
+    head: Head::Unit,
+    nullable: false,
+};
+
+/// Whether two things hold.
+pub fn both(a: bool, b: bool) -> bool
+    ensures { result ≡ (a && b) }
+{
+    a && b
+}
+
+/// Whether all parts have types, where those before have.
+pub fn still(complete: bool, found: Option<KtType>) -> bool
+    ensures { result ≡ (complete && is_some found) }
+{
+    complete && found.is_some()
+}
+
+fn stands_if(fits: bool, d: KtType, at: Span) -> Outcome
+    ensures { result ≡ spec.stands_if fits d at }
+{
+    if fits {
+        Outcome::Stands(d)
+    } else {
+        Outcome::Refused(Rule::Mismatch, at)
+    }
+}
+
+/// A tree of a type in its way.
+pub fn settled(table: &ClassTable, way: Way, d: KtType, at: Span) -> Outcome
+    ensures { result ≡ spec.settled (written (outlines table.now)) way d at }
+{
+    match way {
+        Way::Checked(t) => stands_if(is_subtype(table, d, t), d, at),
+        _ => Outcome::Stands(d),
+    }
+}
+
+/// A tree whose parts have types in its way.
+pub fn claimed(table: &ClassTable, way: Way, at: Span, claim: Claim) -> Outcome
+    ensures { result ≡ spec.claimed (written (outlines table.now)) way at claim }
+{
+    match claim {
+        Claim::Gives(d) => settled(table, way, d, at),
+        Claim::Breaks(rule, place) => Outcome::Refused(rule, place),
+        Claim::Lacks => Outcome::Untyped,
+    }
+}
+
+/// A tree in its way.
+pub fn outcome(table: &ClassTable, way: Way, at: Span, complete: bool, claim: Claim) -> Outcome
+    ensures { result ≡ spec.outcome (written (outlines table.now)) way at complete claim }
+{
+    if complete {
+        claimed(table, way, at, claim)
+    } else {
+        Outcome::Untyped
+    }
+}
+
+/// The type that a tree has.
+pub fn type_in(outcome: Outcome) -> Option<KtType>
+    ensures { result ≡ spec.type_in outcome }
+{
+    match outcome {
+        Outcome::Stands(t) => Some(t),
+        _ => None,
+    }
+}
+
+fn is_string(head: Head) -> bool
+    ensures { result ≡ spec.is_string head }
+{
+    matches!(head, Head::Str)
+}
+
+/// Whether a value is a text.
+pub fn is_text(found: Option<KtType>) -> bool
+    ensures { result ≡ spec.is_text found }
+{
+    match found {
+        Some(t) => is_string(t.head),
+        None => false,
+    }
+}
+
+/// What `+` asks and gives.
+pub fn sum_operator(text: bool) -> Operator
+    ensures { result ≡ spec.sum_operator text }
+{
+    if text {
+        Operator {
+            left: Way::Inferred,
+            right: Way::Plain,
+            gives: STRING,
+        }
+    } else {
+        Operator {
+            left: Way::Checked(INT),
+            right: Way::Checked(INT),
+            gives: INT,
+        }
+    }
+}
+
+/// What another operator asks and gives, where it is open.
+pub fn arithmetic_operator(operator: Arithmetic) -> Option<Operator>
+    ensures { (text : Bool) → spec.operator_of (body.Arithmetic' operator) text ≡ result }
+{
+    match operator {
+        Arithmetic::Subtract => Some(sum_operator(false)),
+        Arithmetic::Multiply => Some(sum_operator(false)),
+        Arithmetic::Divide => None,
+        Arithmetic::Remainder => None,
+    }
+}
+
+/// The way of an operator's left operand.
+pub fn left_way(operator: Option<Operator>) -> Way
+    ensures { result ≡ spec.left_way operator }
+{
+    match operator {
+        Some(o) => o.left,
+        None => Way::Inferred,
+    }
+}
+
+/// The way of an operator's right operand.
+pub fn right_way(operator: Option<Operator>) -> Way
+    ensures { result ≡ spec.right_way operator }
+{
+    match operator {
+        Some(o) => o.right,
+        None => Way::Inferred,
+    }
+}
+
+/// What a name that is read is.
+pub fn name_claim(word: Span, local: Option<Option<KtType>>) -> Claim
+    ensures { result ≡ spec.name_claim word local }
+{
+    match local {
+        None => Claim::Breaks(Rule::UnknownName, word),
+        Some(None) => Claim::Lacks,
+        Some(Some(d)) => Claim::Gives(d),
+    }
+}
+
+/// The way of a value that is kept.
+pub fn value_way(t: Option<KtType>) -> Way
+    ensures { result ≡ spec.value_way t }
+{
+    match t {
+        Some(t) => Way::Checked(t),
+        None => Way::Inferred,
+    }
+}
+
+/// The type of a local, if it has one.
+pub fn type_or_none(local: Option<Option<KtType>>) -> Option<KtType>
+    ensures { result ≡ spec.type_or_none local }
+{
+    match local {
+        None => None,
+        Some(t) => t,
+    }
+}
+
+/// What an assignment is.
+pub fn assign_claim(word: Span, local: Option<Option<KtType>>) -> Claim
+    ensures { result ≡ spec.assign_claim word local }
+{
+    match local {
+        None => Claim::Breaks(Rule::UnknownName, word),
+        Some(_) => Claim::Gives(UNIT),
+    }
+}
+
+/// The type of a local before its initialiser.
+pub fn known_type(local: Option<Option<KtType>>, written: Option<KtType>) -> Option<KtType>
+    ensures { result ≡ spec.known_type local written }
+{
+    match local {
+        Some(t) => t,
+        None => written,
+    }
+}
+
+fn kept(outcome: Outcome) -> Claim
+    ensures { result ≡ spec.kept outcome }
+{
+    match outcome {
+        Outcome::Stands(_) => Claim::Gives(UNIT),
+        Outcome::Refused(rule, at) => Claim::Breaks(rule, at),
+        Outcome::Untyped => Claim::Lacks,
+    }
+}
+
+/// What a value that is made is, where a local keeps it.
+pub fn kept_claim(table: &ClassTable, at: Span, made: KtType, local: Option<KtType>) -> Claim
+    ensures { (n : body.Mark) → n.span ≡ at → result ≡ spec.kept_claim (written (outlines table.now)) n made local }
+{
+    match local {
+        None => Claim::Lacks,
+        Some(t) => kept(settled(table, Way::Checked(t), made, at)),
+    }
+}

@@ -1,0 +1,233 @@
+//! The pass over expressions. The parts of an expression are typed before its way is known, and in each way alike; so the left operand of a sum is typed
+//! once, though whether it is a text decides how it is checked.
+ghost use Rattle.std.specs.Prelude.{◌≡◌, ◌&&◌, is_some, IfOk, List, [], ◌∷◌, map};
+ghost use Rattle.kt_tree.specs.declared.token.Span.{Span};
+ghost use Rattle.kt_model.specs.NameUses.{named_at};
+ghost use Rattle.kt_model.specs.BodyTrees.{Mark, expr_tree, name_tree, call_tree, seen, seen_trees, piece, inserted_of, named_there, whole};
+ghost use Rattle.kt_model.specs.Typing as spec;
+ghost use Rattle.kt_model.specs.Typing.{Each, judged, all_judged};
+ghost use Rattle.kt_infer.specs.Noting.{IsOpened, Judges, JudgesAll, Opens, typing_of};
+
+use crate::calls::{built_in_signature, demanded, function_signature};
+use crate::choices::{INT, arithmetic_operator, both, left_way, name_claim, right_way, still};
+use crate::notes::{Notes, Opened, opened_tree, shut};
+use kt_model::finding::Rule;
+use kt_model::kinds::KtType;
+use kt_model::typing::{Claim, Operator, Way};
+use kt_model::uses::{Body, Named};
+use kt_tree::ast::{Expr, ExprKind, StringPart};
+use kt_tree::{NoMemory, Span};
+
+/// What an operator makes of its operands, where it is open.
+fn operator_claim(operator: Option<Operator>, span: Span) -> Claim
+    ensures { (n : Mark) → n.span ≡ span → (spec.operator_demand operator n 2).claim ≡ result }
+{
+    match operator {
+        Some(o) => Claim::Gives(o.gives),
+        None => Claim::Breaks(Rule::Syntax, span),
+    }
+}
+
+impl Notes {
+    /// Types an expression in its way.
+    pub fn expr(&mut self, body: &Body<'_>, way: Way, e: &Expr) -> Result<Option<KtType>, NoMemory>
+        ensures { IfOk result (Judges self.old self.new (judged (typing_of body.now) way self.old.locals.entries (expr_tree (named_at body.now.uses.now) e.now))) }
+    {
+        let expression = self.open(body, e)?;
+        let found = self.close(body.table, way, &expression)?;
+        Ok(found)
+    }
+
+    /// Types the parts of an expression.
+    #[cycle(typing)]
+    pub fn open(&mut self, body: &Body<'_>, e: &Expr) -> Result<Opened, NoMemory>
+        ensures { IfOk result (Opens (typing_of body.now) self.old self.new (expr_tree (named_at body.now.uses.now) e.now)) }
+    {
+        match &e.kind {
+            ExprKind::Int(_) => Ok(opened_tree(
+                self.alloc,
+                e.number,
+                e.span,
+                true,
+                Claim::Gives(INT),
+            )),
+            ExprKind::Bool(_) => Ok(shut(self.alloc, e.number, e.span)),
+            ExprKind::Null => Ok(shut(self.alloc, e.number, e.span)),
+            ExprKind::Name(_) => Ok(self.name(body, e.number, e.span)),
+            ExprKind::Template(parts) => {
+                let complete = self.pieces(body, parts.as_slice())?;
+                let claim = Claim::Breaks(Rule::Syntax, e.span);
+                Ok(opened_tree(self.alloc, e.number, e.span, complete, claim))
+            }
+            ExprKind::Paren(a) => {
+                let mut inner = self.open(body, a.get())?;
+                inner.parens.push(e.number)?;
+                Ok(inner)
+            }
+            ExprKind::Call {
+                callee,
+                arguments,
+                lambda,
+            } => match lambda {
+                None => {
+                    let call = self.call(
+                        body,
+                        e.number,
+                        e.span,
+                        callee.span,
+                        arguments.as_slice(),
+                    )?;
+                    Ok(call)
+                }
+                Some(_) => Ok(shut(self.alloc, e.number, e.span)),
+            },
+            ExprKind::Sign(_, a) => {
+                let operand = self.open(body, a.get())?;
+                let found = self.close(body.table, Way::Checked(INT), &operand)?;
+                let claim = Claim::Gives(INT);
+                Ok(opened_tree(self.alloc, e.number, e.span, found.is_some(), claim))
+            }
+            ExprKind::Sum(a, b) => {
+                let first = self.open(body, a.get())?;
+                let operator = first.sum_operator(body.table);
+                let left = self.close(body.table, left_way(operator), &first)?;
+                let second = self.open(body, b.get())?;
+                let right = self.close(body.table, right_way(operator), &second)?;
+                Ok(self.binary(e.number, e.span, operator, left, right))
+            }
+            ExprKind::Arithmetic(o, a, b) => {
+                let operator = arithmetic_operator(*o);
+                let first = self.open(body, a.get())?;
+                let left = self.close(body.table, left_way(operator), &first)?;
+                let second = self.open(body, b.get())?;
+                let right = self.close(body.table, right_way(operator), &second)?;
+                Ok(self.binary(e.number, e.span, operator, left, right))
+            }
+            ExprKind::Compare(_, a, b) => {
+                let first = self.open(body, a.get())?;
+                let left = self.close(body.table, Way::Inferred, &first)?;
+                let second = self.open(body, b.get())?;
+                let right = self.close(body.table, Way::Inferred, &second)?;
+                Ok(self.binary(e.number, e.span, None, left, right))
+            }
+            ExprKind::Equal(_, a, b) => {
+                let first = self.open(body, a.get())?;
+                let left = self.close(body.table, Way::Inferred, &first)?;
+                let second = self.open(body, b.get())?;
+                let right = self.close(body.table, Way::Inferred, &second)?;
+                Ok(self.binary(e.number, e.span, None, left, right))
+            }
+            ExprKind::Not(_) => Ok(shut(self.alloc, e.number, e.span)),
+            ExprKind::And(_, _) => Ok(shut(self.alloc, e.number, e.span)),
+            ExprKind::Or(_, _) => Ok(shut(self.alloc, e.number, e.span)),
+            ExprKind::If {
+                condition: _,
+                then: _,
+                otherwise: _,
+            } => Ok(shut(self.alloc, e.number, e.span)),
+            ExprKind::Return { label: _, value: _ } => Ok(shut(self.alloc, e.number, e.span)),
+            ExprKind::Throw(_) => Ok(shut(self.alloc, e.number, e.span)),
+            _ => Ok(shut(self.alloc, e.number, e.span)),
+        }
+    }
+
+    /// Opens an operator with its two operands, which have these types.
+    fn binary(
+        &self,
+        number: u32,
+        span: Span,
+        operator: Option<Operator>,
+        left: Option<KtType>,
+        right: Option<KtType>,
+    ) -> Opened
+        ensures { (n : Mark) → n.number ≡ number → n.span ≡ span → IsOpened result n.number n.span (is_some left && is_some right) (spec.operator_demand operator n 2).claim }
+    {
+        let claim = operator_claim(operator, span);
+        let complete = left.is_some() && right.is_some();
+        opened_tree(self.alloc, number, span, complete, claim)
+    }
+
+    /// Opens a name that stands alone.
+    fn name(&self, body: &Body<'_>, number: u32, span: Span) -> Opened
+        ensures { Opens (typing_of body.now) self.now self.now (name_tree (named_at body.now.uses.now number) number span) result }
+    {
+        match body.uses.named(number) {
+            Named::Variable(x, _) => {
+                let claim = name_claim(span, self.look_up(x));
+                opened_tree(self.alloc, number, span, true, claim)
+            }
+            _ => shut(self.alloc, number, span),
+        }
+    }
+
+    /// Types arguments in one way; whether each has a type.
+    #[cycle(typing)]
+    fn arguments(&mut self, body: &Body<'_>, way: Way, arguments: &[Expr]) -> Result<bool, NoMemory>
+        ensures { IfOk result (JudgesAll self.old self.new (all_judged (typing_of body.now) (Each way) self.old.locals.entries (seen_trees (map (seen (named_at body.now.uses.now)) arguments.now)))) }
+    {
+        let mut complete = true;
+        for e in arguments {
+            let argument = self.open(body, e)?;
+            let found = self.close(body.table, way, &argument)?;
+            complete = still(complete, found);
+        }
+        Ok(complete)
+    }
+
+    /// Opens a call without a lambda.
+    #[cycle(typing)]
+    fn call(
+        &mut self,
+        body: &Body<'_>,
+        number: u32,
+        span: Span,
+        word: Span,
+        arguments: &[Expr],
+    ) -> Result<Opened, NoMemory>
+        ensures { IfOk result (Opens (typing_of body.now) self.old self.new (call_tree (named_at body.now.uses.now number) (seen_trees (map (seen (named_at body.now.uses.now)) arguments.now)) (named_there number span word))) }
+    {
+        match body.uses.named(number) {
+            Named::Function(f, _) => {
+                let signature = function_signature(body.uses, f);
+                let demand = demanded(signature, span, word, arguments.len());
+                let complete = self.arguments(body, demand.way, arguments)?;
+                Ok(opened_tree(self.alloc, number, span, complete, demand.claim))
+            }
+            Named::BuiltIn(name, _) => {
+                let signature = built_in_signature(name);
+                let demand = demanded(signature, span, word, arguments.len());
+                let complete = self.arguments(body, demand.way, arguments)?;
+                Ok(opened_tree(self.alloc, number, span, complete, demand.claim))
+            }
+            _ => Ok(shut(self.alloc, number, span)),
+        }
+    }
+
+    /// Types what is inserted into a string; whether each part has a type.
+    #[cycle(typing)]
+    fn pieces(&mut self, body: &Body<'_>, parts: &[StringPart]) -> Result<bool, NoMemory>
+        ensures { IfOk result (JudgesAll self.old self.new (all_judged (typing_of body.now) (Each Way.Inferred) self.old.locals.entries (inserted_of (map (piece (named_at body.now.uses.now)) parts.now)))) }
+    {
+        let mut complete = true;
+        for part in parts {
+            let typed = self.inserted(body, part)?;
+            complete = both(complete, typed);
+        }
+        Ok(complete)
+    }
+
+    /// Types what one part of a string inserts; whether it has a type.
+    #[cycle(typing)]
+    fn inserted(&mut self, body: &Body<'_>, part: &StringPart) -> Result<bool, NoMemory>
+        ensures { IfOk result (JudgesAll self.old self.new (all_judged (typing_of body.now) (Each Way.Inferred) self.old.locals.entries (inserted_of (piece (named_at body.now.uses.now) part.now ∷ [])))) }
+    {
+        match part {
+            StringPart::Text(_) => Ok(true),
+            StringPart::Inserted(e) => {
+                let inner = self.open(body, e)?;
+                let found = self.close(body.table, Way::Inferred, &inner)?;
+                Ok(found.is_some())
+            }
+        }
+    }
+}
