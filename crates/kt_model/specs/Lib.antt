@@ -33,4 +33,3 @@ pub mod TreeWalks
 pub mod TreeNumbers
 pub mod ShapeRules
 pub mod Typing
-pub mod TypingLaws
