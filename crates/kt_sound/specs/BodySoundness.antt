@@ -17,7 +17,7 @@ use Rattle.kt_sound.specs.FlowOfBody.{IsFine}
 
 -- ---- what is asked of a body
 
--- A called function is one of the file's, and each call returns, as in every file whose names are resolved.
+-- A called function is one of the file's, and each call returns: a call of a function that is declared `Nothing` is not open.
 pub record IsResolvedBody (p : Program) (f : Function) : Type 0 where
   pub calls : (t : Tree) (g : ℕ) → Contains (all_trees_in f.body) t → called_by t ≡ Some g → IsSome (p.functions g)
   pub returns : (t : Tree) → Contains (all_trees_in f.body) t → returns_at t ≡ true
