@@ -37,7 +37,7 @@ front_behind a b c text more h k = record {
   not_vouched = let l = length-append text more in omega (arith, l, h.puts.vouched, k.not_vouched);
 }
 
-some_behind : (a b c : OutputState) (text more : List ℕ) → PutsWhole a b text → PutsSome b c more → PutsSome a c (text ++ more)
+pub some_behind : (a b c : OutputState) (text more : List ℕ) → PutsWhole a b text → PutsSome b c more → PutsSome a c (text ++ more)
 some_behind a b c text more h k = record {
   put = text ++ k.put;
   appended = appends_then a.written b.written c.written text k.put h.puts.appended k.appended;
@@ -55,7 +55,7 @@ front_more a c text more k = record {
   not_vouched = let l = length-append text more in omega (arith, l, k.not_vouched);
 }
 
-some_more : (a c : OutputState) (text more : List ℕ) → PutsSome a c text → PutsSome a c (text ++ more)
+pub some_more : (a c : OutputState) (text more : List ℕ) → PutsSome a c text → PutsSome a c (text ++ more)
 some_more a c text more k = record {
   put = k.put;
   appended = k.appended;
@@ -150,10 +150,10 @@ exit_by {A} {B} p f s t k q i h = subst (λ (x : Result B Halt). Runs (p >>= f) 
 
 -- ---- what touches the state alone
 
-none_put : (out : OutputState) → PutsWhole out out []
+pub none_put : (out : OutputState) → PutsWhole out out []
 none_put out = record { puts = puts_none out; faults = refl }
 
-short_of : (out : OutputState) (text : List ℕ) → PutsSome out out text
+pub short_of : (out : OutputState) (text : List ℕ) → PutsSome out out text
 short_of out text = record { put = []; appended = (puts_none out).appended; front = record { rest = text; whole_is = refl }; faults = refl }
 
 pub quiet_runs : {A : Type 0} (p : Run A) (s : Kept) (r : Result A Halt) (t : Kept) (out : OutputState) → Quiet p s r t → Runs p (scene s out) r (scene t out)

@@ -3,3 +3,9 @@ pub mod Chain
 pub mod TreeSteps
 pub mod Blocks
 pub mod Wholes
+pub mod FrameLemmas
+pub mod FileChain
+pub mod FileSteps
+pub mod FormSteps
+pub mod BareRuns
+pub mod FileWholes

@@ -1,0 +1,32 @@
+use Rattle.std.proofs.Common.{Ok}
+use Rattle.kt_mean.specs.declared.states.Value.{Value}
+use Rattle.kt_run.proofs.FileChain.{first_right, next_right, then_runs, exit_by, same_right}
+use Rattle.kt_run.specs.FileScene.{scene}
+use Rattle.kt_run.proofs.FileSteps.{gives_some, gives_runs, operated_two}
+use Rattle.kt_run.proofs.evaluator.Evaluator.binary.Goals as goal
+
+pub boxed-requires : goal.boxed-requires
+boxed-requires g c = record { nests = c.requires.nests; right = first_right _ _ _ c.requires.right }
+
+pub returns-in_err-left : goal.returns-in_err-left
+returns-in_err-left g c = exit_by {B = Value} _ _ _ _ _ _ c.from_residual.ensures.1 c.in_err-left.ensures
+
+pub boxed-requires-2 : goal.boxed-requires-2
+boxed-requires-2 g c = record { nests = c.requires.nests; right = first_right _ _ _ (next_right _ _ _ _ _ c.requires.right c.in_ok-left.ensures) }
+
+pub returns-in_err-right : goal.returns-in_err-right
+returns-in_err-right g c =
+    then_runs {B = Value} _ _ _ _ _ _ _ c.in_ok-left.ensures (exit_by {B = Value} _ _ _ _ _ _ c.from_residual-in_err-right.ensures.1 c.in_err-right.ensures)
+
+pub combine-requires : goal.combine-requires
+combine-requires g c =
+    gives_some _ c.boxed-2.new.state
+    (same_right _ _ _ (operated_two c.args.operator c.in_ok-left.left c.in_ok-right.right)
+    (next_right _ _ _ _ _ (next_right _ _ _ _ _ c.requires.right c.in_ok-left.ensures) c.in_ok-right.ensures))
+
+pub returns : goal.returns
+returns g c =
+    let here = scene c.boxed-2.new.state (g.O.Output.state c.boxed-2.new.out) in
+    then_runs {B = Value} _ _ _ _ _ (Ok c.combine.result) here c.in_ok-left.ensures
+    (then_runs {B = Value} _ _ _ _ here (Ok c.combine.result) here c.in_ok-right.ensures
+    (gives_runs _ _ c.combine.result here (operated_two c.args.operator c.in_ok-left.left c.in_ok-right.right) c.combine.ensures))

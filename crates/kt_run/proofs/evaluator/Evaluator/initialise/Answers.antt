@@ -1,0 +1,16 @@
+use Rattle.kt_mean.specs.declared.states.Value.{Value}
+use Rattle.kt_run.proofs.FileChain.{first_right, then_runs, exit_by, quiet_runs}
+use Rattle.kt_run.specs.FileScene.{scene}
+use Rattle.kt_run.proofs.evaluator.Evaluator.initialise.Goals as goal
+
+pub part-requires : goal.part-requires
+part-requires g c = record { nests = c.requires.nests; right = first_right _ _ _ c.requires.right }
+
+pub returns-in_err-value : goal.returns-in_err-value
+returns-in_err-value g c = exit_by {B = Value} _ _ _ _ _ _ c.from_residual.ensures.1 c.in_err-value.ensures
+
+pub returns : goal.returns
+returns g c =
+    let here = scene c.part.new.state (g.O.Output.state c.part.new.out) in
+    let end = scene c.store.new.state here.out in
+    then_runs {B = Value} _ _ _ _ here c.store.result end c.in_ok-value.ensures (quiet_runs _ c.part.new.state c.store.result c.store.new.state here.out c.store.ensures)

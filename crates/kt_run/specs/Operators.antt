@@ -1,0 +1,44 @@
+-- What is done with values, where it is open, and nothing where it is a wrong use: a private word of this crate.
+use Rattle.std.specs.Prelude.{ℕ, ◌==◌, ℤ, Option, Some, None, List, [], ◌∷◌, ◌++◌}
+use Rattle.std.specs.Int.{w32, int_wrapping_add, int_wrapping_sub, int_wrapping_mul}
+use Rattle.kt_tree.specs.declared.ast.part.Sign.{Sign}
+use Rattle.kt_tree.specs.declared.ast.part.Arithmetic.TheVariants as arithmetic
+use Rattle.kt_model.specs.BodyTrees.{Operation, Sum', Arithmetic', Compare', Equal'}
+use Rattle.kt_mean.specs.Frames.{Run, pure, wrong}
+use Rattle.kt_mean.specs.Evaluation.{choose, signed, print, text_of_value, println_name, print_name}
+use Rattle.kt_mean.specs.declared.states.Value.{Value}
+use Rattle.kt_mean.specs.declared.states.Value.TheVariants as value
+use Rattle.kt_run.specs.declared.operators.Operator.{Operator}
+use Rattle.kt_run.specs.declared.operators.Operator.TheVariants as operator
+
+-- the operation of a tree with this operator
+abbrev pub operation_of : Operator → Operation
+operation_of operator.Sum = Sum'
+operation_of (operator.Arithmetic o) = Arithmetic' o
+operation_of (operator.Compare o) = Compare' o
+operation_of (operator.Equal o) = Equal' o
+
+abbrev pub combined : Operator → Value → Value → Option Value
+combined operator.Sum (value.Int a) (value.Int b) = Some (value.Int (int_wrapping_add w32 a b))
+combined (operator.Arithmetic arithmetic.Subtract) (value.Int a) (value.Int b) = Some (value.Int (int_wrapping_sub w32 a b))
+combined (operator.Arithmetic arithmetic.Multiply) (value.Int a) (value.Int b) = Some (value.Int (int_wrapping_mul w32 a b))
+combined _ _ _ = None
+
+abbrev pub with_sign : Sign → Value → Option Value
+with_sign s (value.Int a) = Some (value.Int (signed s a))
+with_sign s _ = None
+
+-- the text that a built-in function prints
+abbrev pub printed : ℕ → List Value → Option (List ℕ)
+printed name [] = choose (name == println_name) (Some (10 ∷ [])) None
+printed name (v ∷ []) =
+    choose (name == println_name) (Some (text_of_value v ++ 10 ∷ [])) (choose (name == print_name) (Some (text_of_value v)) None)
+printed name _ = None
+
+abbrev pub gives : Option Value → Run Value
+gives (Some v) = pure v
+gives None = wrong
+
+abbrev pub prints : Option (List ℕ) → Run Value
+prints (Some text) = print text
+prints None = wrong

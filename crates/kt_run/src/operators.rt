@@ -1,0 +1,117 @@
+//! What is done with values. There is no answer for a wrong use: each function requires that none comes.
+ghost use Rattle.std.specs.Prelude.{◌≡◌, ◌++◌, ◌∷◌, [], Some, IsSome, IfSome};
+ghost use Rattle.kt_mean.specs.Evaluation.{text_of_value};
+ghost use Rattle.kt_outside.specs.Texts.{PutsAll};
+ghost use Rattle.kt_run.specs.FileScene.{Prints};
+ghost use Rattle.kt_run.specs.Operators.{combined, with_sign, printed};
+
+use crate::file_state::Halt;
+use itoa::Buffer;
+use kt_mean::states::Value;
+use kt_outside::{Output, PutFault, put_all};
+use kt_tree::ast::{Arithmetic, Comparison, Equality, Sign};
+
+/// The number of the name of `println` in each name table.
+const PRINTLN: u32 = 20;
+
+/// An operator between two values.
+#[derive(Clone, Copy, Debug, PartialEq, Eq)]
+pub(crate) enum Operator {
+    Sum,
+    Arithmetic(Arithmetic),
+    Compare(Comparison),
+    Equal(Equality),
+}
+
+/// What an operator gives. Int has 32 bits and wraps.
+pub(crate) fn combine(operator: Operator, a: Value, b: Value) -> Value
+    requires { IsSome (combined operator a b) }
+    ensures { combined operator a b ≡ Some result }
+{
+    match (operator, a, b) {
+        (Operator::Sum, Value::Int(a), Value::Int(b)) => Value::Int(a.wrapping_add(b)),
+        (Operator::Arithmetic(Arithmetic::Subtract), Value::Int(a), Value::Int(b)) => {
+            Value::Int(a.wrapping_sub(b))
+        }
+        (Operator::Arithmetic(Arithmetic::Multiply), Value::Int(a), Value::Int(b)) => {
+            Value::Int(a.wrapping_mul(b))
+        }
+        _ => unreachable!(),
+    }
+}
+
+/// What a sign makes of a value.
+pub(crate) fn sign_of(sign: Sign, value: Value) -> Value
+    requires { IsSome (with_sign sign value) }
+    ensures { with_sign sign value ≡ Some result }
+{
+    match (sign, value) {
+        (Sign::Minus, Value::Int(a)) => Value::Int(a.wrapping_neg()),
+        (Sign::Plus, Value::Int(a)) => Value::Int(a),
+        _ => unreachable!(),
+    }
+}
+
+/// What a built-in function does with its arguments: it prints.
+pub(crate) fn built_in<O: Output>(out: &mut O, name: u32, values: &[Value]) -> Result<Value, Halt>
+    requires { IsSome (printed name values.now) }
+    ensures { IfSome (printed name values.now) (λ text. Prints (O.state out.old) (O.state out.new) text result) }
+{
+    match values {
+        [] => end_line(out),
+        [value] => {
+            if name == PRINTLN {
+                print_line(out, *value)
+            } else {
+                print(out, *value)
+            }
+        }
+        _ => unreachable!(),
+    }
+}
+
+fn end_line<O: Output>(out: &mut O) -> Result<Value, Halt>
+    ensures { Prints (O.state out.old) (O.state out.new) (10 ∷ []) result }
+{
+    match put_all(out, b"\n") {
+        Ok(()) => Ok(Value::Unit),
+        Err(_) => Err(Halt::OutputFault),
+    }
+}
+
+fn print<O: Output>(out: &mut O, value: Value) -> Result<Value, Halt>
+    ensures { Prints (O.state out.old) (O.state out.new) (text_of_value value) result }
+{
+    match put_value(out, value) {
+        Ok(()) => Ok(Value::Unit),
+        Err(_) => Err(Halt::OutputFault),
+    }
+}
+
+// Puts the value's text and a line end.
+fn print_line<O: Output>(out: &mut O, value: Value) -> Result<Value, Halt>
+    ensures { Prints (O.state out.old) (O.state out.new) (text_of_value value ++ 10 ∷ []) result }
+{
+    match put_value(out, value) {
+        Ok(()) => {}
+        Err(_) => return Err(Halt::OutputFault),
+    }
+    match put_all(out, b"\n") {
+        Ok(()) => Ok(Value::Unit),
+        Err(_) => Err(Halt::OutputFault),
+    }
+}
+
+fn put_value<O: Output>(out: &mut O, value: Value) -> Result<(), PutFault>
+    ensures { PutsAll (O.state out.old) (O.state out.new) (text_of_value value) result }
+{
+    match value {
+        Value::Unit => put_all(out, b"kotlin.Unit"),
+        Value::Bool(true) => put_all(out, b"true"),
+        Value::Bool(false) => put_all(out, b"false"),
+        Value::Int(number) => {
+            let mut buffer = Buffer::new();
+            put_all(out, buffer.format(number).as_bytes())
+        }
+    }
+}
