@@ -1,16 +1,15 @@
 -- Where no wrong use comes, the meaning is the same without written types and dead trees.
-use Rattle.std.proofs.Common.{◌≡◌, ℕ, zero, suc, nat_lt, Bool, true, false, ◌&&◌, Option, Some, None, List, [], ◌∷◌, ◌++◌, refl, sym, ap, subst, ◌∙◌}
+use Rattle.std.proofs.Common.{◌≡◌, ℕ, zero, suc, nat_lt, Bool, true, false, ◌&&◌, Option, Some, None, List, [], ◌∷◌, ◌++◌, refl, ap, subst, ◌∙◌}
 use Rattle.std.proofs.lemmas.Bool.{false≢true}
 use Rattle.kt_model.specs.declared.kinds.KtType.{KtType}
-use Rattle.kt_model.specs.BodyTrees.{Operation, Operation', Name', Paren', Not', And', Or', If', Declare', Local', Assign', Compound', Call', Return', Throw', Shut', Tree, Trees, Empty', First', number}
+use Rattle.kt_model.specs.BodyTrees.{Operation', Name', Paren', Not', And', Or', If', Declare', Local', Assign', Compound', Call', Return', Throw', Shut', Tree, Trees, Empty', First', number}
 use Rattle.kt_mean.specs.declared.states.Value.{Value}
 use Rattle.kt_mean.specs.declared.states.Value.TheVariants as value
-use Rattle.kt_mean.specs.declared.states.Way.TheVariants as way
 use Rattle.kt_mean.specs.declared.states.Limit.TheVariants as limit
 use Rattle.kt_mean.specs.Frames.{Frame, State, Ending, Gave, Left, Over, Wrong, Outcome, Run, NotWrong, ◌>>=◌, ending_after, events_after, pure, over, wrong, turned}
-use Rattle.kt_mean.specs.Evaluation.{Program, Function, choose, fits, spend, read, store, write, operated, most_calls, begun, call_end, with_values, block_from, block, arguments_fit, invoke, limited, called, checked, operand_or_one, tree_at, entered, eval}
+use Rattle.kt_mean.specs.Evaluation.{Program, Function, choose, fits, spend, read, store, write, operated, most_calls, begun, call_end, with_values, block_from, block, arguments_fit, invoke, limited, called, operand_or_one, tree_at, entered, eval}
 use Rattle.kt_mean.specs.Events.{Event}
-use Rattle.kt_mean.specs.WholeRun.{whole, whole_within, start}
+use Rattle.kt_mean.specs.WholeRun.{whole, start}
 use Rattle.kt_run.specs.FileRun.{bare}
 
 -- where the first comes to no wrong use, the second does the same

@@ -1,10 +1,9 @@
 -- One evaluation after another. These lemmas know no tree.
-use Rattle.std.proofs.Common.{◌≡◌, ℕ, arith, List, [], ◌∷◌, ◌++◌, Result, Ok, Err, refl, sym, ap, subst, ◌∙◌, append_assoc, append-nil, length-append}
+use Rattle.std.proofs.Common.{◌≡◌, ℕ, List, [], ◌∷◌, ◌++◌, Result, Ok, Err, refl, sym, ap, subst, ◌∙◌, append_assoc, append-nil}
 use Rattle.std.specs.Result.{IsErrAnd}
-use Rattle.kt_outside.specs.Outside.{OutputState, Rose}
-use Rattle.kt_outside.specs.Texts.{PutsBytes, PutsWhole, PutsFront}
-use Rattle.kt_outside.proofs.PutSteps.{puts_none, puts_then, appends_then}
-use Rattle.kt_mean.specs.Events.{Event, Asked, Printed, text_of}
+use Rattle.kt_outside.specs.Outside.{OutputState}
+use Rattle.kt_outside.specs.Texts.{PutsWhole, PutsFront}
+use Rattle.kt_mean.specs.Events.{Event, Printed, text_of}
 use Rattle.std.proofs.Math.Path.{fun_ext}
 use Rattle.kt_mean.specs.declared.states.Value.{Value}
 use Rattle.kt_mean.specs.declared.states.Way.{Way}

@@ -1,5 +1,5 @@
 -- What single steps do.
-use Rattle.std.proofs.Common.{◌≡◌, ◌≢◌, ℕ, suc, ◌-◌, ◌<◌, arith, ◌==◌, ℤ, pos, Bool, true, false, List, [], ◌∷◌, ◌++◌, Option, Some, None, IsSome, IfSome, MatchResult, Result, Ok, Err, refl, sym, ap, subst, ◌∙◌}
+use Rattle.std.proofs.Common.{◌≡◌, ◌≢◌, ℕ, suc, ◌-◌, ◌<◌, arith, ◌==◌, pos, Bool, true, false, List, [], ◌∷◌, ◌++◌, Option, Some, None, IsSome, IfSome, MatchResult, Result, Ok, Err, refl, sym, ap, subst, ◌∙◌}
 use Rattle.std.proofs.lemmas.Bool.{false≢true}
 use Rattle.kt_tree.specs.declared.ast.part.Sign.{Sign}
 use Rattle.kt_tree.specs.declared.ast.part.Arithmetic.TheVariants as arithmetic
@@ -10,7 +10,7 @@ use Rattle.kt_outside.specs.Outside.{OutputState}
 use Rattle.kt_mean.specs.declared.states.Value.{Value}
 use Rattle.kt_mean.specs.declared.states.Value.TheVariants as value
 use Rattle.kt_mean.specs.declared.states.Limit.TheVariants as limit
-use Rattle.kt_mean.specs.Frames.{State, Gave, Run, NotWrong, over, pure, wrong, with_local}
+use Rattle.kt_mean.specs.Frames.{State, Run, NotWrong, over, pure, wrong}
 use Rattle.kt_mean.specs.Evaluation.{Program, eval, entered, choose, read, read_value, store, write, write_over, operated, built_in, print, text_of_value, println_name, print_name}
 use Rattle.kt_run.specs.declared.file_state.State.{State as Kept}
 use Rattle.kt_run.specs.declared.file_state.Halt.{Halt}

@@ -8,12 +8,11 @@ use Rattle.kt_mean.specs.Events.{Event, text_of}
 use Rattle.kt_mean.specs.declared.states.Value.{Value}
 use Rattle.kt_mean.specs.declared.states.Value.TheVariants as value
 use Rattle.kt_mean.specs.declared.states.Way.TheVariants as way
-use Rattle.kt_mean.specs.declared.states.Limit.{Limit}
 use Rattle.kt_mean.specs.declared.states.Limit.TheVariants as limit
 use Rattle.kt_mean.specs.declared.states.RunEnding.{RunEnding}
 use Rattle.kt_mean.specs.declared.states.RunEnding.TheVariants as ending
 use Rattle.kt_mean.specs.Frames.{Locals, no_locals, Frame, State, Ending, Gave, Left, Over, Wrong, Outcome, Run, NotWrong, wrong, over, turned}
-use Rattle.kt_mean.specs.Evaluation.{Program, Function, choose, fits, is_unit, given, ended, call_end, resume, most_calls, arguments_fit, block, begun, invoke, limited, called, eval}
+use Rattle.kt_mean.specs.Evaluation.{Program, Function, choose, fits, is_unit, ended, call_end, resume, most_calls, arguments_fit, block, begun, invoke, limited, called, eval}
 use Rattle.kt_mean.specs.WholeRun.{start, whole, run_ending}
 use Rattle.kt_run.specs.declared.file_state.State.{State as Kept}
 use Rattle.kt_run.specs.declared.file_state.Halt.{Halt}

@@ -1,5 +1,5 @@
 -- The forms of trees: arguments, calls, and what a tree of a file is as plain data.
-use Rattle.std.proofs.Common.{◌≡◌, ◌≢◌, ℕ, suc, ◌+◌, ◌≤◌, ◌<◌, pos, Bool, true, false, ◌&&◌, List, [], ◌∷◌, ◌++◌, length, map, drop, get_or, Option, Some, None, option_map, slice_get, Result, Ok, Err, refl, sym, ap, subst, ◌∙◌, arith, add-one, append_assoc, append-nil}
+use Rattle.std.proofs.Common.{◌≡◌, ◌≢◌, ℕ, suc, ◌+◌, ◌≤◌, ◌<◌, pos, Bool, true, false, ◌&&◌, List, [], ◌∷◌, ◌++◌, length, map, drop, get_or, Option, Some, None, option_map, Result, Ok, Err, refl, sym, ap, subst, ◌∙◌, add-one, append_assoc, append-nil}
 use Rattle.std.proofs.Math.Path.{fun_ext}
 use Rattle.std.proofs.Math.Seq.{drop-cons}
 use Rattle.std.proofs.lemmas.Bool.{false≢true, lt-ltb, le-ltb}
@@ -16,7 +16,7 @@ use Rattle.kt_model.proofs.BodyFolds.{kind_return_any, kind_return_at_any, piece
 use Rattle.kt_model.specs.declared.kinds.KtType.{KtType}
 use Rattle.kt_model.specs.declared.uses.Named.{Named}
 use Rattle.kt_model.specs.declared.uses.Named.TheVariants as named
-use Rattle.kt_model.specs.BodyTrees.{Operation, Sum', Arithmetic', Mark, Tree, Trees, Empty', First', Seen, SeenKind, seen_kind, expr_tree, stmt_tree, listed, piece, inserted_of, name_tree, call_tree, local_tree as local_shape, assign_tree as assign_shape, seen as seen_in, seen_trees, seen_optional}
+use Rattle.kt_model.specs.BodyTrees.{Operation, Sum', Arithmetic', Mark, Tree, Trees, Empty', First', SeenKind, seen_kind, expr_tree, stmt_tree, listed, piece, inserted_of, name_tree, call_tree, local_tree as local_shape, assign_tree as assign_shape, seen as seen_in, seen_trees, seen_optional}
 use Rattle.kt_outside.specs.Outside.{OutputState}
 use Rattle.kt_outside.specs.Texts.{PutsFront}
 use Rattle.kt_mean.specs.Events.{text_of}
@@ -25,14 +25,14 @@ use Rattle.kt_mean.specs.declared.states.Value.{Value}
 use Rattle.kt_mean.specs.declared.states.Value.TheVariants as value
 use Rattle.kt_mean.specs.declared.states.Way.TheVariants as way
 use Rattle.kt_mean.specs.declared.states.Limit.TheVariants as limit
-use Rattle.kt_mean.specs.Frames.{Locals, Frame, State, Ending, Gave, Left, Over, Wrong, Outcome, Run, NotWrong, ◌>>=◌, pure, over, wrong, turned}
-use Rattle.kt_mean.specs.Evaluation.{Program, Function, choose, fits, is_unit, with_values, block, block_from, arguments_fit, most_calls, begun, resume, given, ended, call_end, invoke, limited, called, checked, read, write, operated, compound_tree, tree_at}
+use Rattle.kt_mean.specs.Frames.{Locals, Frame, State, Ending, Gave, Left, Over, Wrong, Outcome, Run, NotWrong, ◌>>=◌, over, wrong, turned}
+use Rattle.kt_mean.specs.Evaluation.{Program, Function, choose, fits, is_unit, with_values, block, block_from, arguments_fit, most_calls, begun, given, ended, call_end, invoke, limited, called, checked, read, write, operated, compound_tree, tree_at}
 use Rattle.kt_run.specs.declared.file_state.State.{State as Kept}
 use Rattle.kt_run.specs.declared.file_state.Halt.{Halt}
 use Rattle.kt_run.specs.declared.file_state.Halt.TheVariants as halt
-use Rattle.kt_run.specs.FileScene.{Scene, scene, seen, Right, Ends, Runs}
-use Rattle.kt_run.specs.FileRun.{collected, name_run, call_run, local_run, assign_run, compound_run, operand_run, answered}
-use Rattle.kt_run.proofs.FileChain.{same_runs, pure_bind, bind_assoc, quiet_runs}
+use Rattle.kt_run.specs.FileScene.{Scene, scene, seen, Right, Runs}
+use Rattle.kt_run.specs.FileRun.{collected, name_run, call_run, local_run, assign_run, compound_run, answered}
+use Rattle.kt_run.proofs.FileChain.{pure_bind, bind_assoc, quiet_runs}
 use Rattle.kt_run.proofs.FileSteps.{wrong_comes}
 
 -- ---- lists

@@ -1,19 +1,17 @@
 -- The meaning of a file's trees as the evaluator goes over them, and what a whole run of a file owes to the written meaning.
-use Rattle.std.specs.Prelude.{◌≡◌, ◌++◌, ℕ, pos, Bool, true, false, List, [], ◌∷◌, map, Option, Some, None, option_map, Result, Ok, Err}
+use Rattle.std.specs.Prelude.{◌≡◌, ◌++◌, ℕ, pos, Bool, true, false, List, [], ◌∷◌, Option, Some, None, Result, Ok, Err}
 use Rattle.kt_tree.specs.declared.ast.declaration.File.{File}
-use Rattle.kt_tree.specs.declared.ast.body.Expr.{Expr}
-use Rattle.kt_tree.specs.declared.token.Span.{Span}
 use Rattle.kt_tree.specs.declared.ast.part.Assignment.{Assignment}
 use Rattle.kt_tree.specs.declared.ast.part.Assignment.TheVariants as assignment
 use Rattle.kt_model.specs.declared.uses.Named.{Named}
 use Rattle.kt_model.specs.declared.uses.Named.TheVariants as named
 use Rattle.kt_model.specs.NameUses.{Resolved, named_at}
-use Rattle.kt_model.specs.BodyTrees.{Operation, Sum', Arithmetic', Tree, Trees, Empty', First', Seen, expr_tree, stmt_tree, seen_optional}
+use Rattle.kt_model.specs.BodyTrees.{Operation, Sum', Arithmetic', Tree, Trees, Empty', First', expr_tree, stmt_tree}
 use Rattle.kt_outside.specs.Outside.{OutputState}
 use Rattle.kt_outside.specs.Texts.{PutsWhole, PutsFront}
 use Rattle.kt_mean.specs.Events.{text_of}
 use Rattle.kt_mean.specs.Frames.{Run, ◌>>=◌, pure, wrong, NotWrong}
-use Rattle.kt_mean.specs.Evaluation.{Program, Function, eval, tree_at, with_values, built_in, called, operated, checked, read, store, write, local_tree, assign_tree, compound_tree}
+use Rattle.kt_mean.specs.Evaluation.{Program, eval, tree_at, with_values, built_in, called, operated, checked, read, store, write, local_tree, assign_tree}
 use Rattle.kt_mean.specs.Programs.{function_at}
 use Rattle.kt_mean.specs.WholeRun.{whole, run_ending}
 use Rattle.kt_mean.specs.declared.states.Value.{Value}

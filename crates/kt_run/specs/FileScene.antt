@@ -1,5 +1,5 @@
 -- What the evaluator of a file's trees owes to the written meaning, for every input: a private word of this crate.
-use Rattle.std.specs.Prelude.{◌≡◌, ℕ, List, [], Result, Ok, Err, Option}
+use Rattle.std.specs.Prelude.{◌≡◌, ℕ, List, [], Result, Ok, Err}
 use Rattle.kt_outside.specs.Outside.{OutputState}
 use Rattle.kt_outside.specs.Texts.{PutsWhole, PutsFront}
 use Rattle.kt_mean.specs.declared.states.Value.{Value}

@@ -1,9 +1,8 @@
-use Rattle.std.proofs.Common.{sym, subst, ◌≡◌, ◌-◌, arith}
+use Rattle.std.proofs.Common.{sym, subst, ◌≡◌, arith}
 use Rattle.kt_mean.specs.declared.states.Value.{Value}
 use Rattle.kt_mean.specs.Frames.{Run}
-use Rattle.kt_mean.specs.Evaluation.{eval, entered}
 use Rattle.kt_run.specs.FileScene.{scene, Right, Runs}
-use Rattle.kt_run.specs.FileRun.{program_seen, part, tree_seen}
+use Rattle.kt_run.specs.FileRun.{program_seen, tree_seen}
 use Rattle.kt_run.proofs.FileSteps.{no_depth, deeper}
 use Rattle.kt_run.proofs.file_run.+evaluate.Goals as goal
 

@@ -1,6 +1,6 @@
 use Rattle.std.proofs.Common.{sym, subst}
 use Rattle.kt_model.specs.declared.uses.Named.{Named}
-use Rattle.kt_run.specs.FileScene.{Scene, scene, Right, Runs}
+use Rattle.kt_run.specs.FileScene.{Right}
 use Rattle.kt_run.specs.FileRun.{name_run}
 use Rattle.kt_run.proofs.FileSteps.{no_local}
 use Rattle.kt_run.proofs.single_steps.read_name.Goals as goal

@@ -1,7 +1,6 @@
-use Rattle.std.proofs.Common.{sym, subst, Option, None, Some, option_map, option_copied, slice_get, ◌≡◌, ap, ◌∙◌}
-use Rattle.kt_mean.specs.Evaluation.{Function, called, limited, invoke}
-use Rattle.kt_model.specs.NameUses.{parameters_at}
-use Rattle.kt_mean.specs.Programs.{function_at, function_of}
+use Rattle.std.proofs.Common.{sym, subst, None, Some, option_map, option_copied, slice_get, ◌≡◌, ap, ◌∙◌}
+use Rattle.kt_mean.specs.Evaluation.{called}
+use Rattle.kt_mean.specs.Programs.{function_of}
 use Rattle.kt_run.specs.FileScene.{scene, Right, Runs}
 use Rattle.kt_run.specs.FileRun.{program_seen, part}
 use Rattle.kt_run.proofs.FileChain.{same_right, same_runs}

@@ -1,4 +1,4 @@
-use Rattle.std.proofs.Common.{Option, option_map, sym, subst}
+use Rattle.std.proofs.Common.{Option, option_map, subst}
 use Rattle.kt_model.specs.declared.uses.Named.TheVariants as named
 use Rattle.kt_tree.specs.declared.ast.part.Assignment.{Assignment}
 use Rattle.kt_tree.specs.declared.ast.part.Assignment.TheVariants as assignment

@@ -1,7 +1,7 @@
 use Rattle.std.proofs.Common.{sym, subst}
 use Rattle.kt_tree.specs.declared.ast.body.Expr.{Expr}
 use Rattle.kt_model.specs.BodyTrees.{expr_tree}
-use Rattle.kt_run.specs.FileScene.{Scene, scene, Right, Runs}
+use Rattle.kt_run.specs.FileScene.{scene, Right, Runs}
 use Rattle.kt_run.specs.FileRun.{part, names}
 use Rattle.kt_run.proofs.evaluator.Evaluator.boxed.Goals as goal
 

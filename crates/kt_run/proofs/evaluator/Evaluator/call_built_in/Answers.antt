@@ -1,10 +1,8 @@
-use Rattle.std.proofs.Common.{sym, subst, map, List}
+use Rattle.std.proofs.Common.{sym, subst, List}
 use Rattle.kt_mean.specs.declared.states.Value.{Value}
-use Rattle.kt_model.specs.BodyTrees.{seen as seen_in, seen_trees}
 use Rattle.kt_mean.specs.Evaluation as spec
 use Rattle.kt_run.specs.FileScene.{scene, Right, Runs}
-use Rattle.kt_run.specs.FileRun.{program_seen, part, names}
-use Rattle.kt_run.specs.Operators.{printed}
+use Rattle.kt_run.specs.FileRun.{program_seen, part}
 use Rattle.kt_run.proofs.FileChain.{first_right, next_right, then_runs, exit_by, same_right, same_runs}
 use Rattle.kt_run.proofs.FileSteps.{printed_some, built_in_runs}
 use Rattle.kt_run.proofs.FormSteps.{values_same}

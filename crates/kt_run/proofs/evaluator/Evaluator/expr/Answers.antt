@@ -1,6 +1,6 @@
 use Rattle.std.proofs.Common.{map, refl, sym, ap, subst, ◌∙◌}
 use Rattle.kt_tree.specs.declared.ast.body.ExprKind.TheVariants as e
-use Rattle.kt_model.specs.BodyTrees.{Tree, expr_tree, seen as seen_in, seen_trees, piece, inserted_of, named_there, shut}
+use Rattle.kt_model.specs.BodyTrees.{Tree, seen as seen_in, seen_trees, piece, inserted_of, named_there, shut}
 use Rattle.kt_model.proofs.BodyFolds.{tree_of_kind, kind_int, kind_bool, kind_null, kind_name, kind_template, kind_paren, kind_call, kind_call_with, kind_sign, kind_not, kind_sum, kind_arithmetic, kind_compare, kind_equal, kind_and, kind_or, kind_if_any, kind_throw, kind_other}
 use Rattle.kt_mean.specs.Frames.{wrong}
 use Rattle.kt_mean.specs.Evaluation.{with_values}
