@@ -1,3 +1,2 @@
 pub mod Engine
-pub mod Parsed
 pub mod Reach
