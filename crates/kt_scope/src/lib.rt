@@ -6,8 +6,6 @@ mod declarations;
 mod events;
 mod resolver;
 mod scopes;
-#[cfg(test)]
-mod tests;
 mod uses;
 
 pub use uses::resolve;
