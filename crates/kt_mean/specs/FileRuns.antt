@@ -7,7 +7,7 @@ use Rattle.kt_tree.specs.declared.ast.declaration.File.{File}
 use Rattle.kt_model.specs.NameUses.{Resolved}
 use Rattle.kt_model.specs.ControlFlow.{Node, body_nodes, body_edges}
 use Rattle.kt_model.specs.declared.graph.Tag.TheVariants.{In}
-use Rattle.kt_mean.specs.BodyPaths.{IsNodePath}
+use Rattle.kt_model.specs.BodyPaths.{IsNodePath}
 use Rattle.kt_mean.specs.Evaluation.{Function, Program}
 use Rattle.kt_mean.specs.Programs.{function_at, program_of, main_of}
 

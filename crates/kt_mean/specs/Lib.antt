@@ -8,7 +8,6 @@ pub mod Frames
 pub mod Evaluation
 pub mod WholeRun
 pub mod Programs
-pub mod BodyPaths
 pub mod FileRuns
 pub mod EvaluationLaws
 pub mod WorkedRuns

@@ -32,4 +32,7 @@ pub mod NameRules
 pub mod TreeWalks
 pub mod TreeNumbers
 pub mod ShapeRules
+pub mod BodyPaths
+pub mod TreesWithin
+pub mod FlowRules
 pub mod Typing

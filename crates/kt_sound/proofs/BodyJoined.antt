@@ -24,10 +24,10 @@ use Rattle.kt_mean.specs.declared.states.Limit.TheVariants as limit
 use Rattle.kt_mean.specs.Frames.{Frame, State, Ending, Gave, Left, Over, Wrong, Run, ◌>>=◌, pure, over, wrong, ending_after, NotWrong}
 use Rattle.kt_mean.specs.Evaluation.{Function, Program, choose, spend, tree_at, entered, eval, invoke}
 use Rattle.kt_mean.specs.WholeRun.{start}
-use Rattle.kt_sound.specs.TreesWithin.{all_trees_in}
+use Rattle.kt_model.specs.TreesWithin.{all_trees_in}
 use Rattle.kt_sound.specs.FlowOfBody.{IsFine}
 use Rattle.kt_model.specs.declared.graph.Tag.TheVariants.{In}
-use Rattle.kt_mean.specs.BodyPaths.{IsNodePath}
+use Rattle.kt_model.specs.BodyPaths.{IsNodePath}
 use Rattle.kt_mean.specs.Programs.{is_expression, function_of, function_at}
 use Rattle.kt_mean.specs.FileRuns.{IsDeadTree}
 use Rattle.kt_sound.specs.BodySoundness.{IsAcceptedBody, IsAcceptedProgram, BodiesNeverWrong}

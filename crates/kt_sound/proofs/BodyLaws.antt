@@ -15,7 +15,7 @@ use Rattle.kt_mean.specs.declared.states.Value.{Value}
 use Rattle.kt_mean.specs.declared.states.Way.TheVariants.{Return}
 use Rattle.kt_mean.specs.Frames.{State, Ending, Gave, Left, Over, Wrong, Run, pure, wrong}
 use Rattle.kt_mean.specs.Evaluation.{Program, read, read_value, operated, tree_at}
-use Rattle.kt_sound.specs.TreesWithin.{trees_in}
+use Rattle.kt_model.specs.TreesWithin.{trees_in}
 use Rattle.kt_sound.specs.BodySoundness.{HasBuiltInClasses}
 use Rattle.kt_sound.proofs.NoFinding.{Stood, parts_none, closed_found, closed_stood, operation_decided, name_decided, typed_trees}
 use Rattle.kt_sound.proofs.ValueTypes.{Lies}

@@ -15,9 +15,10 @@ use Rattle.kt_mean.specs.declared.states.Value.TheVariants as value
 use Rattle.kt_mean.specs.declared.states.Way.TheVariants.{Return}
 use Rattle.kt_mean.specs.Frames.{Frame, State, Ending, Gave, Left, Over, Wrong, Run}
 use Rattle.kt_mean.specs.Evaluation.{Program, fits}
-use Rattle.kt_sound.specs.TreesWithin.{trees_in, all_trees_in, called_by, returns_at}
-use Rattle.kt_mean.specs.BodyPaths.{IsNodePath}
-use Rattle.kt_sound.specs.FlowOfBody.{assigned_on, IsFine}
+use Rattle.kt_model.specs.TreesWithin.{trees_in, all_trees_in, called_by, returns_at}
+use Rattle.kt_model.specs.BodyPaths.{IsNodePath}
+use Rattle.kt_sound.specs.FlowOfBody.{IsFine}
+use Rattle.kt_model.specs.FlowRules.{assigned_on}
 use Rattle.kt_sound.proofs.TypingSteps.{Known, Kept, AsWritten}
 use Rattle.kt_sound.proofs.ValueTypes.{Lies}
 

@@ -14,8 +14,8 @@ use Rattle.kt_mean.specs.declared.states.Value.{Value}
 use Rattle.kt_mean.specs.declared.states.Way.TheVariants.{Return}
 use Rattle.kt_mean.specs.Frames.{with_local, Frame, State, Ending, Gave, Left, Over, Wrong, Run, ◌>>=◌, ending_after}
 use Rattle.kt_mean.specs.Evaluation.{Program, with_values}
-use Rattle.kt_sound.specs.TreesWithin.{trees_in, all_trees_in}
-use Rattle.kt_sound.specs.FlowOfBody.{assigned_on}
+use Rattle.kt_model.specs.TreesWithin.{trees_in, all_trees_in}
+use Rattle.kt_model.specs.FlowRules.{assigned_on}
 use Rattle.kt_sound.proofs.TypingSteps.{none_in, kept_trees}
 use Rattle.kt_sound.proofs.NoFinding.{typed_tree}
 use Rattle.kt_sound.proofs.ValueTypes.{Lies}

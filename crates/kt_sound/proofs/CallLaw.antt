@@ -16,7 +16,7 @@ use Rattle.kt_mean.specs.declared.states.Way.TheVariants.{Return}
 use Rattle.kt_mean.specs.declared.states.Limit.TheVariants as limit
 use Rattle.kt_mean.specs.Frames.{no_locals, Frame, State, Ending, Gave, Left, Over, Wrong, Run, ◌>>=◌, pure, over, wrong, turned, ending_after}
 use Rattle.kt_mean.specs.Evaluation.{Function, Program, choose, fits, most_calls, limited, arguments_fit, new_locals, begun, resume, given, ended, call_end, block_from, block, invoke, called, tree_at}
-use Rattle.kt_sound.specs.TreesWithin.{trees_in, all_trees_in}
+use Rattle.kt_model.specs.TreesWithin.{trees_in, all_trees_in}
 use Rattle.kt_sound.proofs.NoFinding.{parts_none, closed_stood, call_decided, typed_trees}
 use Rattle.kt_sound.proofs.ValueTypes.{Lies}
 use Rattle.kt_sound.proofs.Operations.{breaks-gives, call_gives, and_right}

@@ -19,7 +19,7 @@ use Rattle.kt_mean.specs.declared.states.Value.{Value}
 use Rattle.kt_mean.specs.declared.states.Value.TheVariants as value
 use Rattle.kt_mean.specs.Frames.{State, Run, ◌>>=◌, pure, wrong, ending_after}
 use Rattle.kt_mean.specs.Evaluation.{Program, read, read_value, write, operated, operand_or_one, tree_at}
-use Rattle.kt_sound.specs.TreesWithin.{trees_in, all_trees_in}
+use Rattle.kt_model.specs.TreesWithin.{trees_in, all_trees_in}
 use Rattle.kt_sound.proofs.TypingSteps.{none_in, none-some, some-some, kept_trees}
 use Rattle.kt_sound.proofs.NoFinding.{parts_none, closed_stood, IsDecided, some_finding, old_known, old_typed, compound_decided, types_first, typed_trees}
 use Rattle.kt_sound.proofs.ValueTypes.{Lies, lies_above, int_of, no_texts}

@@ -15,7 +15,7 @@ use Rattle.kt_mean.specs.declared.states.Value.{Value}
 use Rattle.kt_mean.specs.declared.states.Value.TheVariants as value
 use Rattle.kt_mean.specs.Frames.{State, Gave, Run, ◌>>=◌, wrong}
 use Rattle.kt_mean.specs.Evaluation.{Program, choose, fits, store, write, write_over, put, checked, tree_at}
-use Rattle.kt_sound.specs.TreesWithin.{trees_in, all_trees_in}
+use Rattle.kt_model.specs.TreesWithin.{trees_in, all_trees_in}
 use Rattle.kt_sound.proofs.TypingSteps.{none-some, some-some, kept_tree, kept_initialised, own_type, new_initialised}
 use Rattle.kt_sound.proofs.NoFinding.{parts_none, closed_stood, declaration_decided, assign_decided, types_first, typed_tree}
 use Rattle.kt_sound.proofs.ValueTypes.{Lies}

@@ -12,7 +12,7 @@ use Rattle.kt_mean.specs.Evaluation.{Function, Program}
 use Rattle.kt_mean.specs.Programs.{function_at}
 use Rattle.kt_mean.specs.FileRuns.{IsProgram}
 use Rattle.kt_mean.specs.WholeRun.{whole}
-use Rattle.kt_sound.specs.TreesWithin.{all_trees_in, called_by, returns_at}
+use Rattle.kt_model.specs.TreesWithin.{all_trees_in, called_by, returns_at}
 use Rattle.kt_sound.specs.FlowOfBody.{IsFine}
 
 -- ---- what is asked of a body

@@ -1,4 +1,3 @@
 pub mod Soundness
-pub mod TreesWithin
 pub mod FlowOfBody
 pub mod BodySoundness

@@ -1,6 +1,7 @@
 -- The trees of a body, and what each reads, assigns and calls. By recursion; an assigned name is no tree.
 use Rattle.std.specs.Prelude.{ℕ, Bool, true, List, [], ◌∷◌, ◌++◌, Option, Some, None}
-use Rattle.kt_model.specs.BodyTrees.{Tree, Trees, Empty', First', Operation', Name', Paren', Not', And', Or', If', Declare', Local', Assign', Compound', Call', Return', Throw', Shut'}
+use Rattle.kt_tree.specs.declared.token.Span.{Span}
+use Rattle.kt_model.specs.BodyTrees.{Mark, Tree, Trees, Empty', First', Operation', Name', Paren', Not', And', Or', If', Declare', Local', Assign', Compound', Call', Return', Throw', Shut'}
 use Rattle.kt_model.specs.ControlFlow.{returns_of}
 
 -- a tree and all that is in it; all trees in those that stand one behind another
@@ -25,6 +26,27 @@ unfoldable mutual
   pub all_trees_in : Trees → List Tree
   all_trees_in Empty' = []
   all_trees_in (First' t rest) = trees_in t ++ all_trees_in rest
+
+-- what a tree is known by; and the span of the name that it declares, reads, assigns or calls, which is its own where it has none
+abbrev pub mark_of : Tree → Mark
+mark_of (Operation' n o parts) = n
+mark_of (Name' n at x) = n
+mark_of (Paren' n e) = n
+mark_of (Not' n e) = n
+mark_of (And' n a b) = n
+mark_of (Or' n a b) = n
+mark_of (If' n c a b) = n
+mark_of (Declare' n x) = n
+mark_of (Local' n at x e) = n
+mark_of (Assign' n at x fixed e) = n
+mark_of (Compound' n at x fixed o operand) = n
+mark_of (Call' n f returns arguments) = n
+mark_of (Return' n value) = n
+mark_of (Throw' n e) = n
+mark_of (Shut' n) = n
+
+abbrev pub word_of : Tree → Span
+word_of t = (mark_of t).word
 
 -- the local that a tree itself reads
 abbrev pub read_by : Tree → Option ℕ

@@ -1,0 +1,75 @@
+-- The rules along the paths of a body, and the limits on its graph.
+--
+-- From the Kotlin specification, "Variable initialization analysis": a local is read only where it is assigned along every path to there, and a `val` or
+-- parameter is assigned only where it is assigned along none. The codes, the spans and the limits are this project's own. Paths go by nodes; all of them,
+-- one at a time. The code numbers the nodes and solves equations over their edges.
+use Rattle.std.specs.Prelude.{◌≡◌, ℕ, ◌<◌, Bool, true, false, List, [], ◌∷◌, length, Some, Contains, slice_get, IsTrue, ◌↔◌}
+use Rattle.kt_tree.specs.declared.token.Span.{Span}
+use Rattle.kt_tree.specs.declared.ast.declaration.File.{File}
+use Rattle.kt_tree.specs.declared.ast.declaration.FunctionDecl.{FunctionDecl}
+use Rattle.kt_model.specs.NameUses.{Resolved}
+use Rattle.kt_model.specs.Bodies.{owner_trees, owner_parameters, variables_of, IsTooLarge}
+use Rattle.kt_model.specs.BodyTrees.{Tree, Trees, number}
+use Rattle.kt_model.specs.ControlFlow.{Node, Edge, assigns, reads, body_nodes, body_edges}
+use Rattle.kt_model.specs.BodyPaths.{IsNodePath}
+use Rattle.kt_model.specs.NodePaths.{assigned_after}
+use Rattle.kt_model.specs.TreesWithin.{all_trees_in, word_of, read_by, fixed_by}
+use Rattle.kt_model.specs.declared.graph.Known.{Known}
+use Rattle.kt_model.specs.declared.graph.Tag.TheVariants.{In}
+use Rattle.kt_model.specs.declared.graph.Variable.{Variable}
+use Rattle.kt_model.specs.declared.graph.Variable.TheVariants.{Local}
+use Rattle.kt_model.specs.declared.uses.Owner.TheVariants as owner
+use Rattle.kt_model.specs.declared.finding.Finding.{Finding}
+use Rattle.kt_model.specs.declared.finding.Rule.TheVariants.{Unassigned, ValTwice, TooManyLocals, FlowTooLarge}
+
+-- whether a variable is assigned after a path; at first none is
+abbrev pub assigned_on : List Node → Variable → Bool
+assigned_on [] x = false
+assigned_on (n ∷ path) x = assigned_after n.effects x (assigned_on path x)
+
+-- A rule along the paths of a body with these parameters is violated. What is asked is the state before the node's own effects.
+pub data IsFlowViolated (parameters : List ℕ) (body : Trees) : Finding → Type 0 where
+  -- UNASSIGNED: a tree reads a local, and along some path to the node where it does so the local is not assigned.
+  unassigned : (t : Tree) (x : ℕ) (n : Node) (path : List Node) → Contains (all_trees_in body) t → read_by t ≡ Some x → n.tree ≡ number t
+      → Contains n.effects (reads x) → IsNodePath (body_edges parameters body) (n ∷ path) → assigned_on path (Local x) ≡ false
+      → IsFlowViolated parameters body (record { rule = Unassigned; span = word_of t })
+  -- VAL_TWICE: a tree assigns a `val` or a parameter, and along some path to the node where it does so the local is assigned already.
+  val_twice : (t : Tree) (x : ℕ) (k : Known) (n : Node) (path : List Node) → Contains (all_trees_in body) t → fixed_by t ≡ Some x → n.tree ≡ number t
+      → Contains n.effects (assigns x k) → IsNodePath (body_edges parameters body) (n ∷ path) → assigned_on path (Local x) ≡ true
+      → IsFlowViolated parameters body (record { rule = ValTwice; span = word_of t })
+
+-- ---- which trees are entered
+
+-- Some path ends at the tree's `in`.
+pub record IsEntered (parameters : List ℕ) (body : Trees) (tree : ℕ) : Type 0 where
+  pub node : Node
+  pub path : List Node
+  pub same_tree : node.tree ≡ tree
+  pub enters : node.tag ≡ In
+  pub is_path : IsNodePath (body_edges parameters body) (node ∷ path)
+
+-- For every tree number it is settled whether such a tree is entered.
+pub record SettlesEntered (parameters : List ℕ) (body : Trees) : Type 0 where
+  pub entered : ℕ → Bool
+  pub is_entered : (tree : ℕ) → IsTrue (entered tree) ↔ IsEntered parameters body tree
+
+-- ---- the limits on a body's graph
+
+-- the most locals of one body, parameters among them
+abbrev pub most_locals : ℕ
+most_locals = 250
+
+-- how many locals the nodes of a body declare
+abbrev pub locals_of : List ℕ → Trees → ℕ
+locals_of parameters body = length (variables_of (body_nodes parameters body))
+
+-- A limit is passed by the body of the function at this place, among so many classes; the finding stands at the function's name.
+pub data IsSizeViolated (file : File) (uses : Resolved) (classes : ℕ) : Finding → Type 0 where
+  -- TOO_MANY_LOCALS: there are more locals than a body may have.
+  too_many : (place : ℕ) (f : FunctionDecl) → slice_get file.functions place ≡ Some f
+      → most_locals < locals_of (owner_parameters uses (owner.Function place)) (owner_trees file uses (owner.Function place))
+      → IsSizeViolated file uses classes (record { rule = TooManyLocals; span = f.name.span })
+  -- FLOW_TOO_LARGE: the graph passes one of its two numbers; no targets of facts are counted yet.
+  too_large : (place : ℕ) (f : FunctionDecl) → slice_get file.functions place ≡ Some f
+      → IsTooLarge (length (body_nodes (owner_parameters uses (owner.Function place)) (owner_trees file uses (owner.Function place)))) 0 classes
+      → IsSizeViolated file uses classes (record { rule = FlowTooLarge; span = f.name.span })
