@@ -27,15 +27,23 @@ abbrev pub assigned_on : List Node → Variable → Bool
 assigned_on [] x = false
 assigned_on (n ∷ path) x = assigned_after n.effects x (assigned_on path x)
 
--- A rule along the paths of a body with these parameters is violated. What is asked is the state before the node's own effects.
+-- Along every path to the node, before the node's own effects, the variable is assigned (b is true) or unassigned.
+abbrev pub IsOnAll : List Edge → Node → Variable → Bool → Type 0
+IsOnAll edges n x b = (path : List Node) → IsNodePath edges (n ∷ path) → assigned_on path x ≡ b
+
+-- Some path ends at the node.
+abbrev pub IsReachedNode : List Edge → Node → Type 0
+IsReachedNode edges n = (path : List Node) × IsNodePath edges (n ∷ path)
+
+-- A rule along the paths of a body with these parameters is violated. A node that no path reaches violates none.
 pub data IsFlowViolated (parameters : List ℕ) (body : Trees) : Finding → Type 0 where
-  -- UNASSIGNED: a tree reads a local, and along some path to the node where it does so the local is not assigned.
-  unassigned : (t : Tree) (x : ℕ) (n : Node) (path : List Node) → Contains (all_trees_in body) t → read_by t ≡ Some x → n.tree ≡ number t
-      → Contains n.effects (reads x) → IsNodePath (body_edges parameters body) (n ∷ path) → assigned_on path (Local x) ≡ false
+  -- UNASSIGNED: a tree reads a local that is not assigned along every path to the node where it does so.
+  unassigned : (t : Tree) (x : ℕ) (n : Node) → Contains (all_trees_in body) t → read_by t ≡ Some x → n.tree ≡ number t → Contains n.effects (reads x)
+      → IsReachedNode (body_edges parameters body) n → ¬ IsOnAll (body_edges parameters body) n (Local x) true
       → IsFlowViolated parameters body (record { rule = Unassigned; span = word_of t })
-  -- VAL_TWICE: a tree assigns a `val` or a parameter, and along some path to the node where it does so the local is assigned already.
-  val_twice : (t : Tree) (x : ℕ) (k : Known) (n : Node) (path : List Node) → Contains (all_trees_in body) t → fixed_by t ≡ Some x → n.tree ≡ number t
-      → Contains n.effects (assigns x k) → IsNodePath (body_edges parameters body) (n ∷ path) → assigned_on path (Local x) ≡ true
+  -- VAL_TWICE: a tree assigns a `val` or a parameter that is not unassigned along every path to the node where it does so.
+  val_twice : (t : Tree) (x : ℕ) (k : Known) (n : Node) → Contains (all_trees_in body) t → fixed_by t ≡ Some x → n.tree ≡ number t → Contains n.effects (assigns x k)
+      → IsReachedNode (body_edges parameters body) n → ¬ IsOnAll (body_edges parameters body) n (Local x) false
       → IsFlowViolated parameters body (record { rule = ValTwice; span = word_of t })
 
 -- ---- which trees are entered
@@ -43,10 +51,9 @@ pub data IsFlowViolated (parameters : List ℕ) (body : Trees) : Finding → Typ
 -- Some path ends at the tree's `in`.
 pub record IsEntered (parameters : List ℕ) (body : Trees) (tree : ℕ) : Type 0 where
   pub node : Node
-  pub path : List Node
   pub same_tree : node.tree ≡ tree
   pub enters : node.tag ≡ In
-  pub is_path : IsNodePath (body_edges parameters body) (node ∷ path)
+  pub reached : IsReachedNode (body_edges parameters body) node
 
 -- For every tree number it is settled whether such a tree is entered.
 pub record SettlesEntered (parameters : List ℕ) (body : Trees) : Type 0 where
