@@ -1,3 +1,4 @@
 pub mod Soundness
 pub mod FlowOfBody
 pub mod BodySoundness
+pub mod FileSoundness
