@@ -125,7 +125,7 @@ unit_is head.Int b e = absurd (false≢true e)
 unit_is head.Str b e = absurd (false≢true e)
 unit_is (head.Class c) b e = absurd (false≢true e)
 
-open_is : (parameters : List ℕ) (result : Option KtType) (s : Signature) → open_signature parameters result ≡ Some s → Open parameters result s
+pub open_is : (parameters : List ℕ) (result : Option KtType) (s : Signature) → open_signature parameters result ≡ Some s → Open parameters result s
 open_is [] None s e = absurd (none-some s e)
 open_is [] (Some t) s e = by (is_unit t) refl e
   where

@@ -15,3 +15,12 @@ pub mod LocalLaws
 pub mod CompoundLaw
 pub mod CallLaw
 pub mod BodyJoined
+pub mod NamedCalls
+pub mod NamedTrees
+pub mod OneFile
+pub mod DeadOfFile
+pub mod SignedCalls
+pub mod Declared
+pub mod ResolvedBodies
+pub mod MainOfFile
+pub mod AcceptedFile

@@ -1,9 +1,13 @@
-//! Soundness: what the written rules accept is never wrong. Below are the written rules and the written meaning; the interpreter above rests on
-//! this one law, which is a statement about definitions and takes no memory.
+//! Soundness: what the written rules accept is never wrong. Below are the written rules and the written meaning; the interpreters above rest on
+//! these laws, which are statements about definitions and take no memory.
 #![tactic(auto)]
 
 ghost use Rattle.kt_sound.specs.BodySoundness.{BodiesNeverWrong};
 ghost use Rattle.kt_sound.specs.Soundness.{NeverWrong};
+
+mod files;
+
+pub use files::{files_have_programs, files_never_wrong, one_program_of_a_file};
 
 /// For every accepted source, every input and every number of steps the written meaning does not end by a wrong use: no local that holds nothing
 /// is read, no `val` that holds a value is assigned, no dead tree is entered.

@@ -1,0 +1,83 @@
+-- A file in which no rule on bodies is violated has an accepted program.
+use Rattle.std.proofs.Common.{◌≡◌, ℕ, Bool, true, false, List, [], ◌∷◌, Contains, Some, IsSome, refl, sym, ap, subst, ◌∙◌, arith}
+use Rattle.std.proofs.lemmas.Bool.{false≢true}
+use Rattle.kt_tree.specs.declared.ast.declaration.File.{File}
+use Rattle.kt_model.specs.BodyTrees.{Trees}
+use Rattle.kt_model.specs.ControlFlow.{body_edges}
+use Rattle.kt_model.specs.FlowRules.{assigned_on, IsFlowViolated, unassigned, val_twice}
+use Rattle.kt_model.specs.NameUses.{Resolved}
+use Rattle.kt_model.specs.Outlines.{outlines_of}
+use Rattle.kt_model.specs.Typing.{signature_of, body_judged}
+use Rattle.kt_model.specs.declared.finding.Finding.{Finding}
+use Rattle.kt_model.specs.declared.graph.Variable.TheVariants.{Local}
+use Rattle.kt_model.specs.declared.uses.Owner.TheVariants as owner
+use Rattle.kt_mean.specs.Evaluation.{Function, Program}
+use Rattle.kt_mean.specs.Programs.{function_at}
+use Rattle.kt_mean.specs.FileRuns.{IsProgram}
+use Rattle.kt_sound.specs.BodySoundness.{HasBuiltInClasses, IsAcceptedBody, IsAcceptedProgram}
+use Rattle.kt_sound.specs.FileSoundness.{file_classes, AreBodiesAccepted, FilesNeverWrong}
+use Rattle.kt_sound.specs.FlowOfBody.{IsFine}
+use Rattle.kt_sound.proofs.TypingSteps.{some-some}
+use Rattle.kt_sound.proofs.BodyJoined.{bodies_never}
+use Rattle.kt_sound.proofs.DeadOfFile.{is_function}
+use Rattle.kt_sound.proofs.MainOfFile.{main_signature}
+use Rattle.kt_sound.proofs.ResolvedBodies.{resolved_body}
+
+-- ---- what is built in
+
+built_in : (file : File) → HasBuiltInClasses (file_classes file)
+unfolding outlines_of
+built_in file = record { any_class = refl; unit_class = refl; boolean_class = refl; int_class = refl }
+
+-- ---- bodies
+
+no_element : {A : Type 0} (xs : List A) → ((x : A) → Contains xs x → ⊥) → xs ≡ []
+no_element [] h = refl
+no_element (x ∷ xs) h = absurd (h x (0, omega arith, refl))
+
+decided : (a b : Bool) → ((a ≡ b → ⊥) → ⊥) → a ≡ b
+decided true true h = refl
+decided false false h = refl
+decided true false h = absurd (h (λ e. false≢true (sym e)))
+decided false true h = absurd (h false≢true)
+
+-- No rule along paths is violated, so each path keeps them.
+fine : (parameters : List ℕ) (body : Trees) → ((f : Finding) → IsFlowViolated parameters body f → ⊥) → IsFine (body_edges parameters body) body
+fine parameters body none = record {
+  reads = λ t x n path i is same effect walked.
+      decided (assigned_on path (Local x)) true (λ differs. none _ (unassigned t x n i is same effect (path, walked) (λ all. differs (all path walked))));
+  assigns = λ t x k n path i is same effect walked.
+      decided (assigned_on path (Local x)) false (λ differs. none _ (val_twice t x k n i is same effect (path, walked) (λ all. differs (all path walked))));
+}
+
+fine_same : (parameters xs : List ℕ) (body ts : Trees) → xs ≡ parameters → ts ≡ body → IsFine (body_edges parameters body) body → IsFine (body_edges xs ts) ts
+fine_same parameters xs body ts e f h = subst (λ z. IsFine (body_edges z ts) ts) (sym e) (subst (λ z. IsFine (body_edges parameters z) z) (sym f) h)
+
+module _ (file : File) (uses : Resolved) (main : ℕ) (p : Program) (a : AreBodiesAccepted file uses main) (is : IsProgram file uses p) where
+  functions_are : (g : ℕ) → p.functions g ≡ function_at file uses g
+  functions_are g = ap (λ (q : Program). q.functions g) is.program
+
+  accepted_body : (place : ℕ) (f : Function) → function_at file uses place ≡ Some f → IsAcceptedBody file (file_classes file) uses p place f
+  accepted_body place f e =
+      let here = is_function file uses place f e in
+      let body = a.bodies place here.there in
+      let typed = no_element (body_judged file (file_classes file) uses (owner.Function place)).findings body.typed in
+      record {
+        resolved = resolved_body file (file_classes file) uses a.resolved p functions_are place f here.same_body typed;
+        typed = typed;
+        fine = fine_same _ f.parameters _ f.body here.same_parameters here.same_body (fine _ _ body.flows);
+      }
+
+  mains_are : p.main ≡ main
+  mains_are = ap (λ (q : Program). q.main) is.program ∙ some-some is.main main (sym is.is_main ∙ a.is_main)
+
+  accepted : IsAcceptedProgram file (file_classes file) uses p
+  accepted = record {
+    is_program = is;
+    built_in = built_in file;
+    bodies = accepted_body;
+    main = subst (λ m. IsSome (signature_of uses m)) (sym mains_are) (main_signature file uses main a.resolved a.is_main);
+  }
+
+pub files_never : FilesNeverWrong
+files_never file uses main p steps input a is = bodies_never file (file_classes file) uses p steps input (accepted file uses main p a is)

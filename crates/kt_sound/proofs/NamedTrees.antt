@@ -1,0 +1,146 @@
+-- Each call among the trees of a body, by induction over the written trees.
+use Rattle.std.proofs.Common.{◌≡◌, ℕ, Option, Some, None, map, refl, sym, subst}
+use Rattle.std.specs.Prelude.{⊤}
+use Rattle.kt_tree.specs.declared.ast.body.Expr.{Expr}
+use Rattle.kt_tree.specs.declared.ast.body.ExprKind.{ExprKind}
+use Rattle.kt_tree.specs.declared.ast.body.Stmt.{Stmt}
+use Rattle.kt_tree.specs.declared.ast.body.Block.{Block}
+use Rattle.kt_tree.specs.declared.ast.body.Branch.{Branch}
+use Rattle.kt_tree.specs.declared.ast.body.Condition.{Condition}
+use Rattle.kt_tree.specs.declared.ast.body.Catch.{Catch}
+use Rattle.kt_tree.specs.declared.ast.body.Lambda.{Lambda}
+use Rattle.kt_tree.specs.declared.ast.body.Subject.{Subject}
+use Rattle.kt_tree.specs.declared.ast.body.WhenBranch.{WhenBranch}
+use Rattle.kt_tree.specs.declared.ast.body.StringPart.{StringPart}
+use Rattle.kt_tree.specs.declared.ast.body.Branch.TheOpen.{Branch-F, ExprKind-F, Stmt-F, StringPart-F, Block-F, Expr-F}
+use Rattle.kt_tree.specs.declared.ast.body.Branch.TheViews as v
+use Rattle.kt_tree.specs.declared.ast.body.Branch.TheFolds.{ind-Expr, ind-Block, map-Branch, map-ExprKind, map-Stmt, map-StringPart, map-Block, map-Expr, fold-roll-Branch, fold-roll-ExprKind, fold-roll-Stmt, fold-roll-StringPart, fold-roll-Block, fold-roll-Expr}
+use Rattle.kt_tree.specs.declared.ast.declaration.FunctionBody.{FunctionBody}
+use Rattle.kt_tree.specs.declared.ast.declaration.FunctionBody.TheVariants as written
+use Rattle.kt_model.specs.declared.uses.Named.{Named}
+use Rattle.kt_model.specs.Bodies.{body_trees_of}
+use Rattle.kt_model.specs.BodyTrees.{Int', Bool', Null', Template', Sign', Sum', Arithmetic', Compare', Equal', Tree, Trees, Empty', Piece, Seen, SeenKind, inserted_of, seen_trees, kind_step, stmt_step, branch_step, piece_step, block_step, expr_step, nothing, whole, named_there, seen, seen_kind, stmt_tree, block_trees, branch_trees, piece, expr_tree}
+use Rattle.kt_sound.proofs.NamedCalls.{Calls, AllCalls, OfKind, OfPiece, BranchWith, ConditionWith, KindWith, StmtWith, PieceWith, BlockWith, CatchWith, ExprWith, LambdaWith, SubjectWith, WhenBranchWith, none, one_more, alone, shut_calls, operation_calls, paren_calls, not_calls, throw_calls, and_calls, or_calls, if_calls, return_calls, name_calls, call_calls, arguments_calls, pieces_calls, listed_calls, local_calls, assign_calls}
+
+module _ (uses : ℕ → Named) where
+  -- ---- one layer of a written tree, whose parts are proved
+
+  abbrev branch_parts : Branch-F (BranchWith uses) (ConditionWith uses) (KindWith uses) (StmtWith uses) (PieceWith uses) (BlockWith uses) (CatchWith uses) (ExprWith uses) (LambdaWith uses) (SubjectWith uses) (WhenBranchWith uses) → Branch-F Branch Condition ExprKind Stmt StringPart Block Catch Expr Lambda Subject WhenBranch
+  branch_parts y = map-Branch (BranchWith uses) (ConditionWith uses) (KindWith uses) (StmtWith uses) (PieceWith uses) (BlockWith uses) (CatchWith uses) (ExprWith uses) (LambdaWith uses) (SubjectWith uses) (WhenBranchWith uses) Branch Condition ExprKind Stmt StringPart Block Catch Expr Lambda Subject WhenBranch (λ e. e.0) (λ e. e.0) (λ e. e.0) (λ e. e.0) (λ e. e.0) (λ e. e.0) (λ e. e.0) (λ e. e.0) (λ e. e.0) (λ e. e.0) (λ e. e.0) y
+
+  abbrev branch_made : Branch-F (BranchWith uses) (ConditionWith uses) (KindWith uses) (StmtWith uses) (PieceWith uses) (BlockWith uses) (CatchWith uses) (ExprWith uses) (LambdaWith uses) (SubjectWith uses) (WhenBranchWith uses) → Trees
+  branch_made y = branch_step (map-Branch Branch Condition ExprKind Stmt StringPart Block Catch Expr Lambda Subject WhenBranch Trees (Unit {0}) SeenKind Tree Piece Trees (Unit {0}) Seen (Unit {0}) (Unit {0}) (Unit {0}) (branch_trees uses) nothing (seen_kind uses) (stmt_tree uses) (piece uses) (block_trees uses) nothing (seen uses) nothing nothing nothing (branch_parts y))
+
+  abbrev kind_parts : ExprKind-F (BranchWith uses) (ConditionWith uses) (KindWith uses) (StmtWith uses) (PieceWith uses) (BlockWith uses) (CatchWith uses) (ExprWith uses) (LambdaWith uses) (SubjectWith uses) (WhenBranchWith uses) → ExprKind-F Branch Condition ExprKind Stmt StringPart Block Catch Expr Lambda Subject WhenBranch
+  kind_parts y = map-ExprKind (BranchWith uses) (ConditionWith uses) (KindWith uses) (StmtWith uses) (PieceWith uses) (BlockWith uses) (CatchWith uses) (ExprWith uses) (LambdaWith uses) (SubjectWith uses) (WhenBranchWith uses) Branch Condition ExprKind Stmt StringPart Block Catch Expr Lambda Subject WhenBranch (λ e. e.0) (λ e. e.0) (λ e. e.0) (λ e. e.0) (λ e. e.0) (λ e. e.0) (λ e. e.0) (λ e. e.0) (λ e. e.0) (λ e. e.0) (λ e. e.0) y
+
+  abbrev kind_made : ExprKind-F (BranchWith uses) (ConditionWith uses) (KindWith uses) (StmtWith uses) (PieceWith uses) (BlockWith uses) (CatchWith uses) (ExprWith uses) (LambdaWith uses) (SubjectWith uses) (WhenBranchWith uses) → SeenKind
+  kind_made y = kind_step uses (map-ExprKind Branch Condition ExprKind Stmt StringPart Block Catch Expr Lambda Subject WhenBranch Trees (Unit {0}) SeenKind Tree Piece Trees (Unit {0}) Seen (Unit {0}) (Unit {0}) (Unit {0}) (branch_trees uses) nothing (seen_kind uses) (stmt_tree uses) (piece uses) (block_trees uses) nothing (seen uses) nothing nothing nothing (kind_parts y))
+
+  abbrev stmt_parts : Stmt-F (BranchWith uses) (ConditionWith uses) (KindWith uses) (StmtWith uses) (PieceWith uses) (BlockWith uses) (CatchWith uses) (ExprWith uses) (LambdaWith uses) (SubjectWith uses) (WhenBranchWith uses) → Stmt-F Branch Condition ExprKind Stmt StringPart Block Catch Expr Lambda Subject WhenBranch
+  stmt_parts y = map-Stmt (BranchWith uses) (ConditionWith uses) (KindWith uses) (StmtWith uses) (PieceWith uses) (BlockWith uses) (CatchWith uses) (ExprWith uses) (LambdaWith uses) (SubjectWith uses) (WhenBranchWith uses) Branch Condition ExprKind Stmt StringPart Block Catch Expr Lambda Subject WhenBranch (λ e. e.0) (λ e. e.0) (λ e. e.0) (λ e. e.0) (λ e. e.0) (λ e. e.0) (λ e. e.0) (λ e. e.0) (λ e. e.0) (λ e. e.0) (λ e. e.0) y
+
+  abbrev stmt_made : Stmt-F (BranchWith uses) (ConditionWith uses) (KindWith uses) (StmtWith uses) (PieceWith uses) (BlockWith uses) (CatchWith uses) (ExprWith uses) (LambdaWith uses) (SubjectWith uses) (WhenBranchWith uses) → Tree
+  stmt_made y = stmt_step uses (map-Stmt Branch Condition ExprKind Stmt StringPart Block Catch Expr Lambda Subject WhenBranch Trees (Unit {0}) SeenKind Tree Piece Trees (Unit {0}) Seen (Unit {0}) (Unit {0}) (Unit {0}) (branch_trees uses) nothing (seen_kind uses) (stmt_tree uses) (piece uses) (block_trees uses) nothing (seen uses) nothing nothing nothing (stmt_parts y))
+
+  abbrev piece_parts : StringPart-F (BranchWith uses) (ConditionWith uses) (KindWith uses) (StmtWith uses) (PieceWith uses) (BlockWith uses) (CatchWith uses) (ExprWith uses) (LambdaWith uses) (SubjectWith uses) (WhenBranchWith uses) → StringPart-F Branch Condition ExprKind Stmt StringPart Block Catch Expr Lambda Subject WhenBranch
+  piece_parts y = map-StringPart (BranchWith uses) (ConditionWith uses) (KindWith uses) (StmtWith uses) (PieceWith uses) (BlockWith uses) (CatchWith uses) (ExprWith uses) (LambdaWith uses) (SubjectWith uses) (WhenBranchWith uses) Branch Condition ExprKind Stmt StringPart Block Catch Expr Lambda Subject WhenBranch (λ e. e.0) (λ e. e.0) (λ e. e.0) (λ e. e.0) (λ e. e.0) (λ e. e.0) (λ e. e.0) (λ e. e.0) (λ e. e.0) (λ e. e.0) (λ e. e.0) y
+
+  abbrev piece_made : StringPart-F (BranchWith uses) (ConditionWith uses) (KindWith uses) (StmtWith uses) (PieceWith uses) (BlockWith uses) (CatchWith uses) (ExprWith uses) (LambdaWith uses) (SubjectWith uses) (WhenBranchWith uses) → Piece
+  piece_made y = piece_step (map-StringPart Branch Condition ExprKind Stmt StringPart Block Catch Expr Lambda Subject WhenBranch Trees (Unit {0}) SeenKind Tree Piece Trees (Unit {0}) Seen (Unit {0}) (Unit {0}) (Unit {0}) (branch_trees uses) nothing (seen_kind uses) (stmt_tree uses) (piece uses) (block_trees uses) nothing (seen uses) nothing nothing nothing (piece_parts y))
+
+  abbrev block_parts : Block-F (BranchWith uses) (ConditionWith uses) (KindWith uses) (StmtWith uses) (PieceWith uses) (BlockWith uses) (CatchWith uses) (ExprWith uses) (LambdaWith uses) (SubjectWith uses) (WhenBranchWith uses) → Block-F Branch Condition ExprKind Stmt StringPart Block Catch Expr Lambda Subject WhenBranch
+  block_parts y = map-Block (BranchWith uses) (ConditionWith uses) (KindWith uses) (StmtWith uses) (PieceWith uses) (BlockWith uses) (CatchWith uses) (ExprWith uses) (LambdaWith uses) (SubjectWith uses) (WhenBranchWith uses) Branch Condition ExprKind Stmt StringPart Block Catch Expr Lambda Subject WhenBranch (λ e. e.0) (λ e. e.0) (λ e. e.0) (λ e. e.0) (λ e. e.0) (λ e. e.0) (λ e. e.0) (λ e. e.0) (λ e. e.0) (λ e. e.0) (λ e. e.0) y
+
+  abbrev block_made : Block-F (BranchWith uses) (ConditionWith uses) (KindWith uses) (StmtWith uses) (PieceWith uses) (BlockWith uses) (CatchWith uses) (ExprWith uses) (LambdaWith uses) (SubjectWith uses) (WhenBranchWith uses) → Trees
+  block_made y = block_step (map-Block Branch Condition ExprKind Stmt StringPart Block Catch Expr Lambda Subject WhenBranch Trees (Unit {0}) SeenKind Tree Piece Trees (Unit {0}) Seen (Unit {0}) (Unit {0}) (Unit {0}) (branch_trees uses) nothing (seen_kind uses) (stmt_tree uses) (piece uses) (block_trees uses) nothing (seen uses) nothing nothing nothing (block_parts y))
+
+  abbrev expr_parts : Expr-F (BranchWith uses) (ConditionWith uses) (KindWith uses) (StmtWith uses) (PieceWith uses) (BlockWith uses) (CatchWith uses) (ExprWith uses) (LambdaWith uses) (SubjectWith uses) (WhenBranchWith uses) → Expr-F Branch Condition ExprKind Stmt StringPart Block Catch Expr Lambda Subject WhenBranch
+  expr_parts y = map-Expr (BranchWith uses) (ConditionWith uses) (KindWith uses) (StmtWith uses) (PieceWith uses) (BlockWith uses) (CatchWith uses) (ExprWith uses) (LambdaWith uses) (SubjectWith uses) (WhenBranchWith uses) Branch Condition ExprKind Stmt StringPart Block Catch Expr Lambda Subject WhenBranch (λ e. e.0) (λ e. e.0) (λ e. e.0) (λ e. e.0) (λ e. e.0) (λ e. e.0) (λ e. e.0) (λ e. e.0) (λ e. e.0) (λ e. e.0) (λ e. e.0) y
+
+  abbrev expr_made : Expr-F (BranchWith uses) (ConditionWith uses) (KindWith uses) (StmtWith uses) (PieceWith uses) (BlockWith uses) (CatchWith uses) (ExprWith uses) (LambdaWith uses) (SubjectWith uses) (WhenBranchWith uses) → Seen
+  expr_made y = expr_step (map-Expr Branch Condition ExprKind Stmt StringPart Block Catch Expr Lambda Subject WhenBranch Trees (Unit {0}) SeenKind Tree Piece Trees (Unit {0}) Seen (Unit {0}) (Unit {0}) (Unit {0}) (branch_trees uses) nothing (seen_kind uses) (stmt_tree uses) (piece uses) (block_trees uses) nothing (seen uses) nothing nothing nothing (expr_parts y))
+
+  -- ---- each form
+
+  kind_calls : (y : ExprKind-F (BranchWith uses) (ConditionWith uses) (KindWith uses) (StmtWith uses) (PieceWith uses) (BlockWith uses) (CatchWith uses) (ExprWith uses) (LambdaWith uses) (SubjectWith uses) (WhenBranchWith uses)) → OfKind uses (kind_made y)
+  kind_calls (ExprKind-F.Int k) = λ n at. operation_calls uses (whole n at) (Int' k) Empty' tt (none uses)
+  kind_calls (ExprKind-F.Bool b) = λ n at. operation_calls uses (whole n at) (Bool' b) Empty' tt (none uses)
+  kind_calls ExprKind-F.Null = λ n at. operation_calls uses (whole n at) Null' Empty' tt (none uses)
+  kind_calls (ExprKind-F.Name x) = λ n at. name_calls uses (uses n) n at
+  kind_calls (ExprKind-F.Template pieces) = λ n at. operation_calls uses (whole n at) (Template' _) (inserted_of (map (piece uses) (map (λ e. e.0) pieces))) tt (pieces_calls uses pieces)
+  kind_calls (ExprKind-F.Paren e) = λ n at. paren_calls uses (whole n at) (expr_tree uses e.0) e.1
+  kind_calls (ExprKind-F.Call callee arguments None) = λ n at. call_calls uses (uses n) n refl (seen_trees (map (seen uses) (map (λ e. e.0) arguments))) (named_there n at callee.span) (arguments_calls uses arguments)
+  kind_calls (ExprKind-F.Call callee arguments (Some f)) = λ n at. shut_calls uses (whole n at)
+  kind_calls (ExprKind-F.Sign sign e) = λ n at. operation_calls uses (whole n at) (Sign' sign) _ tt (alone uses (expr_tree uses e.0) e.1)
+  kind_calls (ExprKind-F.Not e) = λ n at. not_calls uses (whole n at) (expr_tree uses e.0) e.1
+  kind_calls (ExprKind-F.Sum a b) = λ n at. operation_calls uses (whole n at) Sum' _ tt (one_more uses (expr_tree uses a.0) _ a.1 (alone uses (expr_tree uses b.0) b.1))
+  kind_calls (ExprKind-F.Arithmetic o a b) = λ n at. operation_calls uses (whole n at) (Arithmetic' o) _ tt (one_more uses (expr_tree uses a.0) _ a.1 (alone uses (expr_tree uses b.0) b.1))
+  kind_calls (ExprKind-F.Compare o a b) = λ n at. operation_calls uses (whole n at) (Compare' o) _ tt (one_more uses (expr_tree uses a.0) _ a.1 (alone uses (expr_tree uses b.0) b.1))
+  kind_calls (ExprKind-F.Equal o a b) = λ n at. operation_calls uses (whole n at) (Equal' o) _ tt (one_more uses (expr_tree uses a.0) _ a.1 (alone uses (expr_tree uses b.0) b.1))
+  kind_calls (ExprKind-F.And a b) = λ n at. and_calls uses (whole n at) (expr_tree uses a.0) (expr_tree uses b.0) a.1 b.1
+  kind_calls (ExprKind-F.Or a b) = λ n at. or_calls uses (whole n at) (expr_tree uses a.0) (expr_tree uses b.0) a.1 b.1
+  kind_calls (ExprKind-F.If c a None) = λ n at. if_calls uses (whole n at) (expr_tree uses c.0) (branch_trees uses a.0) Empty' c.1 a.1 (none uses)
+  kind_calls (ExprKind-F.If c a (Some b)) = λ n at. if_calls uses (whole n at) (expr_tree uses c.0) (branch_trees uses a.0) (branch_trees uses b.0) c.1 a.1 b.1
+  kind_calls (ExprKind-F.Return None None) = λ n at. return_calls uses (whole n at) Empty' (none uses)
+  kind_calls (ExprKind-F.Return None (Some e)) = λ n at. return_calls uses (whole n at) _ (alone uses (expr_tree uses e.0) e.1)
+  kind_calls (ExprKind-F.Return (Some label) None) = λ n at. shut_calls uses (whole n at)
+  kind_calls (ExprKind-F.Return (Some label) (Some e)) = λ n at. shut_calls uses (whole n at)
+  kind_calls (ExprKind-F.Throw e) = λ n at. throw_calls uses (whole n at) (expr_tree uses e.0) e.1
+  kind_calls _ = λ n at. shut_calls uses (whole n at)
+
+  stmt_calls : (y : Stmt-F (BranchWith uses) (ConditionWith uses) (KindWith uses) (StmtWith uses) (PieceWith uses) (BlockWith uses) (CatchWith uses) (ExprWith uses) (LambdaWith uses) (SubjectWith uses) (WhenBranchWith uses)) → Calls uses (stmt_made y)
+  stmt_calls (Stmt-F.Expr e) = e.1
+  stmt_calls (Stmt-F.Local n span is_var ident written None) = local_calls uses (uses n) (named_there n span ident.span) None tt
+  stmt_calls (Stmt-F.Local n span is_var ident written (Some e)) = local_calls uses (uses n) (named_there n span ident.span) (Some (seen uses e.0)) e.1
+  stmt_calls (Stmt-F.Assign n span target a None) = assign_calls uses (uses n) n span (seen uses target.0).name a None tt
+  stmt_calls (Stmt-F.Assign n span target a (Some e)) = assign_calls uses (uses n) n span (seen uses target.0).name a (Some (seen uses e.0)) e.1
+  stmt_calls (Stmt-F.While n span c b) = shut_calls uses (whole n span)
+  stmt_calls (Stmt-F.DoWhile n span b c) = shut_calls uses (whole n span)
+  stmt_calls (Stmt-F.For n span x written low p high b) = shut_calls uses (whole n span)
+
+  branch_calls : (y : Branch-F (BranchWith uses) (ConditionWith uses) (KindWith uses) (StmtWith uses) (PieceWith uses) (BlockWith uses) (CatchWith uses) (ExprWith uses) (LambdaWith uses) (SubjectWith uses) (WhenBranchWith uses)) → AllCalls uses (branch_made y)
+  branch_calls (Branch-F.Braced b) = b.1
+  branch_calls (Branch-F.Single s) = alone uses (stmt_tree uses s.0) s.1
+
+  piece_calls : (y : StringPart-F (BranchWith uses) (ConditionWith uses) (KindWith uses) (StmtWith uses) (PieceWith uses) (BlockWith uses) (CatchWith uses) (ExprWith uses) (LambdaWith uses) (SubjectWith uses) (WhenBranchWith uses)) → OfPiece uses (piece_made y)
+  piece_calls (StringPart-F.Text bytes) = tt
+  piece_calls (StringPart-F.Inserted e) = e.1
+
+  -- ---- the induction
+
+  step_branch : (x : Branch-F Branch Condition ExprKind Stmt StringPart Block Catch Expr Lambda Subject WhenBranch) (y : Branch-F (BranchWith uses) (ConditionWith uses) (KindWith uses) (StmtWith uses) (PieceWith uses) (BlockWith uses) (CatchWith uses) (ExprWith uses) (LambdaWith uses) (SubjectWith uses) (WhenBranchWith uses)) → branch_parts y ≡ x → AllCalls uses (branch_trees uses (v.roll-Branch x))
+  unfolding seen seen_kind stmt_tree block_trees branch_trees piece
+  step_branch x y is = subst (λ z. AllCalls uses (branch_trees uses (v.roll-Branch z))) is (subst (AllCalls uses) (sym (fold-roll-Branch Trees (Unit {0}) SeenKind Tree Piece Trees (Unit {0}) Seen (Unit {0}) (Unit {0}) (Unit {0}) branch_step nothing (kind_step uses) (stmt_step uses) piece_step block_step nothing expr_step nothing nothing nothing (branch_parts y))) (branch_calls y))
+
+  step_kind : (x : ExprKind-F Branch Condition ExprKind Stmt StringPart Block Catch Expr Lambda Subject WhenBranch) (y : ExprKind-F (BranchWith uses) (ConditionWith uses) (KindWith uses) (StmtWith uses) (PieceWith uses) (BlockWith uses) (CatchWith uses) (ExprWith uses) (LambdaWith uses) (SubjectWith uses) (WhenBranchWith uses)) → kind_parts y ≡ x → OfKind uses (seen_kind uses (v.roll-ExprKind x))
+  unfolding seen seen_kind stmt_tree block_trees branch_trees piece
+  step_kind x y is = subst (λ z. OfKind uses (seen_kind uses (v.roll-ExprKind z))) is (subst (OfKind uses) (sym (fold-roll-ExprKind Trees (Unit {0}) SeenKind Tree Piece Trees (Unit {0}) Seen (Unit {0}) (Unit {0}) (Unit {0}) branch_step nothing (kind_step uses) (stmt_step uses) piece_step block_step nothing expr_step nothing nothing nothing (kind_parts y))) (kind_calls y))
+
+  step_stmt : (x : Stmt-F Branch Condition ExprKind Stmt StringPart Block Catch Expr Lambda Subject WhenBranch) (y : Stmt-F (BranchWith uses) (ConditionWith uses) (KindWith uses) (StmtWith uses) (PieceWith uses) (BlockWith uses) (CatchWith uses) (ExprWith uses) (LambdaWith uses) (SubjectWith uses) (WhenBranchWith uses)) → stmt_parts y ≡ x → Calls uses (stmt_tree uses (v.roll-Stmt x))
+  unfolding seen seen_kind stmt_tree block_trees branch_trees piece
+  step_stmt x y is = subst (λ z. Calls uses (stmt_tree uses (v.roll-Stmt z))) is (subst (Calls uses) (sym (fold-roll-Stmt Trees (Unit {0}) SeenKind Tree Piece Trees (Unit {0}) Seen (Unit {0}) (Unit {0}) (Unit {0}) branch_step nothing (kind_step uses) (stmt_step uses) piece_step block_step nothing expr_step nothing nothing nothing (stmt_parts y))) (stmt_calls y))
+
+  step_piece : (x : StringPart-F Branch Condition ExprKind Stmt StringPart Block Catch Expr Lambda Subject WhenBranch) (y : StringPart-F (BranchWith uses) (ConditionWith uses) (KindWith uses) (StmtWith uses) (PieceWith uses) (BlockWith uses) (CatchWith uses) (ExprWith uses) (LambdaWith uses) (SubjectWith uses) (WhenBranchWith uses)) → piece_parts y ≡ x → OfPiece uses (piece uses (v.roll-StringPart x))
+  unfolding seen seen_kind stmt_tree block_trees branch_trees piece
+  step_piece x y is = subst (λ z. OfPiece uses (piece uses (v.roll-StringPart z))) is (subst (OfPiece uses) (sym (fold-roll-StringPart Trees (Unit {0}) SeenKind Tree Piece Trees (Unit {0}) Seen (Unit {0}) (Unit {0}) (Unit {0}) branch_step nothing (kind_step uses) (stmt_step uses) piece_step block_step nothing expr_step nothing nothing nothing (piece_parts y))) (piece_calls y))
+
+  step_block : (x : Block-F Branch Condition ExprKind Stmt StringPart Block Catch Expr Lambda Subject WhenBranch) (y : Block-F (BranchWith uses) (ConditionWith uses) (KindWith uses) (StmtWith uses) (PieceWith uses) (BlockWith uses) (CatchWith uses) (ExprWith uses) (LambdaWith uses) (SubjectWith uses) (WhenBranchWith uses)) → block_parts y ≡ x → AllCalls uses (block_trees uses (v.roll-Block x))
+  unfolding seen seen_kind stmt_tree block_trees branch_trees piece
+  step_block x y is = subst (λ z. AllCalls uses (block_trees uses (v.roll-Block z))) is (subst (AllCalls uses) (sym (fold-roll-Block Trees (Unit {0}) SeenKind Tree Piece Trees (Unit {0}) Seen (Unit {0}) (Unit {0}) (Unit {0}) branch_step nothing (kind_step uses) (stmt_step uses) piece_step block_step nothing expr_step nothing nothing nothing (block_parts y))) (listed_calls uses y.statements))
+
+  step_expr : (x : Expr-F Branch Condition ExprKind Stmt StringPart Block Catch Expr Lambda Subject WhenBranch) (y : Expr-F (BranchWith uses) (ConditionWith uses) (KindWith uses) (StmtWith uses) (PieceWith uses) (BlockWith uses) (CatchWith uses) (ExprWith uses) (LambdaWith uses) (SubjectWith uses) (WhenBranchWith uses)) → expr_parts y ≡ x → (λ (e : Seen). Calls uses e.tree) (seen uses (v.roll-Expr x))
+  unfolding seen seen_kind stmt_tree block_trees branch_trees piece
+  step_expr x y is = subst (λ z. (λ (e : Seen). Calls uses e.tree) (seen uses (v.roll-Expr z))) is (subst (λ (e : Seen). Calls uses e.tree) (sym (fold-roll-Expr Trees (Unit {0}) SeenKind Tree Piece Trees (Unit {0}) Seen (Unit {0}) (Unit {0}) (Unit {0}) branch_step nothing (kind_step uses) (stmt_step uses) piece_step block_step nothing expr_step nothing nothing nothing (expr_parts y))) (y.kind.1 y.number y.span))
+
+  pub expr_calls : (e : Expr) → Calls uses (expr_tree uses e)
+  expr_calls e = ind-Expr (λ x. AllCalls uses (branch_trees uses x)) (λ x. ⊤) (λ x. OfKind uses (seen_kind uses x)) (λ x. Calls uses (stmt_tree uses x)) (λ x. OfPiece uses (piece uses x)) (λ x. AllCalls uses (block_trees uses x)) (λ x. ⊤) (λ x. Calls uses (expr_tree uses x)) (λ x. ⊤) (λ x. ⊤) (λ x. ⊤) step_branch (λ x y is. tt) step_kind step_stmt step_piece step_block (λ x y is. tt) step_expr (λ x y is. tt) (λ x y is. tt) (λ x y is. tt) e
+
+  pub block_calls : (b : Block) → AllCalls uses (block_trees uses b)
+  block_calls b = ind-Block (λ x. AllCalls uses (branch_trees uses x)) (λ x. ⊤) (λ x. OfKind uses (seen_kind uses x)) (λ x. Calls uses (stmt_tree uses x)) (λ x. OfPiece uses (piece uses x)) (λ x. AllCalls uses (block_trees uses x)) (λ x. ⊤) (λ x. Calls uses (expr_tree uses x)) (λ x. ⊤) (λ x. ⊤) (λ x. ⊤) step_branch (λ x y is. tt) step_kind step_stmt step_piece step_block (λ x y is. tt) step_expr (λ x y is. tt) (λ x y is. tt) (λ x y is. tt) b
+
+  -- in a body
+  pub body_calls : (o : Option FunctionBody) → AllCalls uses (body_trees_of uses o)
+  body_calls None = none uses
+  body_calls (Some (written.Expr e)) = alone uses (expr_tree uses e) (expr_calls e)
+  body_calls (Some (written.Block contract block)) = block_calls block
