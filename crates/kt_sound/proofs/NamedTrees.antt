@@ -25,45 +25,57 @@ use Rattle.kt_sound.proofs.NamedCalls.{Calls, AllCalls, OfKind, OfPiece, BranchW
 module _ (uses : ℕ → Named) where
   -- ---- one layer of a written tree, whose parts are proved
 
-  abbrev branch_parts : Branch-F (BranchWith uses) (ConditionWith uses) (KindWith uses) (StmtWith uses) (PieceWith uses) (BlockWith uses) (CatchWith uses) (ExprWith uses) (LambdaWith uses) (SubjectWith uses) (WhenBranchWith uses) → Branch-F Branch Condition ExprKind Stmt StringPart Block Catch Expr Lambda Subject WhenBranch
-  branch_parts y = map-Branch (BranchWith uses) (ConditionWith uses) (KindWith uses) (StmtWith uses) (PieceWith uses) (BlockWith uses) (CatchWith uses) (ExprWith uses) (LambdaWith uses) (SubjectWith uses) (WhenBranchWith uses) Branch Condition ExprKind Stmt StringPart Block Catch Expr Lambda Subject WhenBranch (λ e. e.0) (λ e. e.0) (λ e. e.0) (λ e. e.0) (λ e. e.0) (λ e. e.0) (λ e. e.0) (λ e. e.0) (λ e. e.0) (λ e. e.0) (λ e. e.0) y
+  -- a type with eleven types of parts, as one layer of each kind of written tree is
+  abbrev Layer : Type 1
+  Layer = Type 0 → Type 0 → Type 0 → Type 0 → Type 0 → Type 0 → Type 0 → Type 0 → Type 0 → Type 0 → Type 0 → Type 0
 
-  abbrev branch_made : Branch-F (BranchWith uses) (ConditionWith uses) (KindWith uses) (StmtWith uses) (PieceWith uses) (BlockWith uses) (CatchWith uses) (ExprWith uses) (LambdaWith uses) (SubjectWith uses) (WhenBranchWith uses) → Trees
-  branch_made y = branch_step (map-Branch Branch Condition ExprKind Stmt StringPart Block Catch Expr Lambda Subject WhenBranch Trees (Unit {0}) SeenKind Tree Piece Trees (Unit {0}) Seen (Unit {0}) (Unit {0}) (Unit {0}) (branch_trees uses) nothing (seen_kind uses) (stmt_tree uses) (piece uses) (block_trees uses) nothing (seen uses) nothing nothing nothing (branch_parts y))
+  -- with its parts as they are written, and with what is proved of each beside it
+  abbrev Written : Layer → Type 0
+  Written F = F Branch Condition ExprKind Stmt StringPart Block Catch Expr Lambda Subject WhenBranch
 
-  abbrev kind_parts : ExprKind-F (BranchWith uses) (ConditionWith uses) (KindWith uses) (StmtWith uses) (PieceWith uses) (BlockWith uses) (CatchWith uses) (ExprWith uses) (LambdaWith uses) (SubjectWith uses) (WhenBranchWith uses) → ExprKind-F Branch Condition ExprKind Stmt StringPart Block Catch Expr Lambda Subject WhenBranch
-  kind_parts y = map-ExprKind (BranchWith uses) (ConditionWith uses) (KindWith uses) (StmtWith uses) (PieceWith uses) (BlockWith uses) (CatchWith uses) (ExprWith uses) (LambdaWith uses) (SubjectWith uses) (WhenBranchWith uses) Branch Condition ExprKind Stmt StringPart Block Catch Expr Lambda Subject WhenBranch (λ e. e.0) (λ e. e.0) (λ e. e.0) (λ e. e.0) (λ e. e.0) (λ e. e.0) (λ e. e.0) (λ e. e.0) (λ e. e.0) (λ e. e.0) (λ e. e.0) y
+  abbrev Proved : Layer → Type 0
+  Proved F = F (BranchWith uses) (ConditionWith uses) (KindWith uses) (StmtWith uses) (PieceWith uses) (BlockWith uses) (CatchWith uses) (ExprWith uses) (LambdaWith uses) (SubjectWith uses) (WhenBranchWith uses)
 
-  abbrev kind_made : ExprKind-F (BranchWith uses) (ConditionWith uses) (KindWith uses) (StmtWith uses) (PieceWith uses) (BlockWith uses) (CatchWith uses) (ExprWith uses) (LambdaWith uses) (SubjectWith uses) (WhenBranchWith uses) → SeenKind
-  kind_made y = kind_step uses (map-ExprKind Branch Condition ExprKind Stmt StringPart Block Catch Expr Lambda Subject WhenBranch Trees (Unit {0}) SeenKind Tree Piece Trees (Unit {0}) Seen (Unit {0}) (Unit {0}) (Unit {0}) (branch_trees uses) nothing (seen_kind uses) (stmt_tree uses) (piece uses) (block_trees uses) nothing (seen uses) nothing nothing nothing (kind_parts y))
+  -- the layer as it is written, and what is made of it
+  abbrev branch_parts : Proved Branch-F → Written Branch-F
+  branch_parts y = map-Branch _ _ _ _ _ _ _ _ _ _ _ _ _ _ _ _ _ _ _ _ _ _ (λ e. e.0) (λ e. e.0) (λ e. e.0) (λ e. e.0) (λ e. e.0) (λ e. e.0) (λ e. e.0) (λ e. e.0) (λ e. e.0) (λ e. e.0) (λ e. e.0) y
 
-  abbrev stmt_parts : Stmt-F (BranchWith uses) (ConditionWith uses) (KindWith uses) (StmtWith uses) (PieceWith uses) (BlockWith uses) (CatchWith uses) (ExprWith uses) (LambdaWith uses) (SubjectWith uses) (WhenBranchWith uses) → Stmt-F Branch Condition ExprKind Stmt StringPart Block Catch Expr Lambda Subject WhenBranch
-  stmt_parts y = map-Stmt (BranchWith uses) (ConditionWith uses) (KindWith uses) (StmtWith uses) (PieceWith uses) (BlockWith uses) (CatchWith uses) (ExprWith uses) (LambdaWith uses) (SubjectWith uses) (WhenBranchWith uses) Branch Condition ExprKind Stmt StringPart Block Catch Expr Lambda Subject WhenBranch (λ e. e.0) (λ e. e.0) (λ e. e.0) (λ e. e.0) (λ e. e.0) (λ e. e.0) (λ e. e.0) (λ e. e.0) (λ e. e.0) (λ e. e.0) (λ e. e.0) y
+  abbrev branch_made : Proved Branch-F → Trees
+  branch_made y = branch_step (map-Branch _ _ _ _ _ _ _ _ _ _ _ _ _ _ _ _ _ _ _ _ _ _ (branch_trees uses) nothing (seen_kind uses) (stmt_tree uses) (piece uses) (block_trees uses) nothing (seen uses) nothing nothing nothing (branch_parts y))
 
-  abbrev stmt_made : Stmt-F (BranchWith uses) (ConditionWith uses) (KindWith uses) (StmtWith uses) (PieceWith uses) (BlockWith uses) (CatchWith uses) (ExprWith uses) (LambdaWith uses) (SubjectWith uses) (WhenBranchWith uses) → Tree
-  stmt_made y = stmt_step uses (map-Stmt Branch Condition ExprKind Stmt StringPart Block Catch Expr Lambda Subject WhenBranch Trees (Unit {0}) SeenKind Tree Piece Trees (Unit {0}) Seen (Unit {0}) (Unit {0}) (Unit {0}) (branch_trees uses) nothing (seen_kind uses) (stmt_tree uses) (piece uses) (block_trees uses) nothing (seen uses) nothing nothing nothing (stmt_parts y))
+  abbrev kind_parts : Proved ExprKind-F → Written ExprKind-F
+  kind_parts y = map-ExprKind _ _ _ _ _ _ _ _ _ _ _ _ _ _ _ _ _ _ _ _ _ _ (λ e. e.0) (λ e. e.0) (λ e. e.0) (λ e. e.0) (λ e. e.0) (λ e. e.0) (λ e. e.0) (λ e. e.0) (λ e. e.0) (λ e. e.0) (λ e. e.0) y
 
-  abbrev piece_parts : StringPart-F (BranchWith uses) (ConditionWith uses) (KindWith uses) (StmtWith uses) (PieceWith uses) (BlockWith uses) (CatchWith uses) (ExprWith uses) (LambdaWith uses) (SubjectWith uses) (WhenBranchWith uses) → StringPart-F Branch Condition ExprKind Stmt StringPart Block Catch Expr Lambda Subject WhenBranch
-  piece_parts y = map-StringPart (BranchWith uses) (ConditionWith uses) (KindWith uses) (StmtWith uses) (PieceWith uses) (BlockWith uses) (CatchWith uses) (ExprWith uses) (LambdaWith uses) (SubjectWith uses) (WhenBranchWith uses) Branch Condition ExprKind Stmt StringPart Block Catch Expr Lambda Subject WhenBranch (λ e. e.0) (λ e. e.0) (λ e. e.0) (λ e. e.0) (λ e. e.0) (λ e. e.0) (λ e. e.0) (λ e. e.0) (λ e. e.0) (λ e. e.0) (λ e. e.0) y
+  abbrev kind_made : Proved ExprKind-F → SeenKind
+  kind_made y = kind_step uses (map-ExprKind _ _ _ _ _ _ _ _ _ _ _ _ _ _ _ _ _ _ _ _ _ _ (branch_trees uses) nothing (seen_kind uses) (stmt_tree uses) (piece uses) (block_trees uses) nothing (seen uses) nothing nothing nothing (kind_parts y))
 
-  abbrev piece_made : StringPart-F (BranchWith uses) (ConditionWith uses) (KindWith uses) (StmtWith uses) (PieceWith uses) (BlockWith uses) (CatchWith uses) (ExprWith uses) (LambdaWith uses) (SubjectWith uses) (WhenBranchWith uses) → Piece
-  piece_made y = piece_step (map-StringPart Branch Condition ExprKind Stmt StringPart Block Catch Expr Lambda Subject WhenBranch Trees (Unit {0}) SeenKind Tree Piece Trees (Unit {0}) Seen (Unit {0}) (Unit {0}) (Unit {0}) (branch_trees uses) nothing (seen_kind uses) (stmt_tree uses) (piece uses) (block_trees uses) nothing (seen uses) nothing nothing nothing (piece_parts y))
+  abbrev stmt_parts : Proved Stmt-F → Written Stmt-F
+  stmt_parts y = map-Stmt _ _ _ _ _ _ _ _ _ _ _ _ _ _ _ _ _ _ _ _ _ _ (λ e. e.0) (λ e. e.0) (λ e. e.0) (λ e. e.0) (λ e. e.0) (λ e. e.0) (λ e. e.0) (λ e. e.0) (λ e. e.0) (λ e. e.0) (λ e. e.0) y
 
-  abbrev block_parts : Block-F (BranchWith uses) (ConditionWith uses) (KindWith uses) (StmtWith uses) (PieceWith uses) (BlockWith uses) (CatchWith uses) (ExprWith uses) (LambdaWith uses) (SubjectWith uses) (WhenBranchWith uses) → Block-F Branch Condition ExprKind Stmt StringPart Block Catch Expr Lambda Subject WhenBranch
-  block_parts y = map-Block (BranchWith uses) (ConditionWith uses) (KindWith uses) (StmtWith uses) (PieceWith uses) (BlockWith uses) (CatchWith uses) (ExprWith uses) (LambdaWith uses) (SubjectWith uses) (WhenBranchWith uses) Branch Condition ExprKind Stmt StringPart Block Catch Expr Lambda Subject WhenBranch (λ e. e.0) (λ e. e.0) (λ e. e.0) (λ e. e.0) (λ e. e.0) (λ e. e.0) (λ e. e.0) (λ e. e.0) (λ e. e.0) (λ e. e.0) (λ e. e.0) y
+  abbrev stmt_made : Proved Stmt-F → Tree
+  stmt_made y = stmt_step uses (map-Stmt _ _ _ _ _ _ _ _ _ _ _ _ _ _ _ _ _ _ _ _ _ _ (branch_trees uses) nothing (seen_kind uses) (stmt_tree uses) (piece uses) (block_trees uses) nothing (seen uses) nothing nothing nothing (stmt_parts y))
 
-  abbrev block_made : Block-F (BranchWith uses) (ConditionWith uses) (KindWith uses) (StmtWith uses) (PieceWith uses) (BlockWith uses) (CatchWith uses) (ExprWith uses) (LambdaWith uses) (SubjectWith uses) (WhenBranchWith uses) → Trees
-  block_made y = block_step (map-Block Branch Condition ExprKind Stmt StringPart Block Catch Expr Lambda Subject WhenBranch Trees (Unit {0}) SeenKind Tree Piece Trees (Unit {0}) Seen (Unit {0}) (Unit {0}) (Unit {0}) (branch_trees uses) nothing (seen_kind uses) (stmt_tree uses) (piece uses) (block_trees uses) nothing (seen uses) nothing nothing nothing (block_parts y))
+  abbrev piece_parts : Proved StringPart-F → Written StringPart-F
+  piece_parts y = map-StringPart _ _ _ _ _ _ _ _ _ _ _ _ _ _ _ _ _ _ _ _ _ _ (λ e. e.0) (λ e. e.0) (λ e. e.0) (λ e. e.0) (λ e. e.0) (λ e. e.0) (λ e. e.0) (λ e. e.0) (λ e. e.0) (λ e. e.0) (λ e. e.0) y
 
-  abbrev expr_parts : Expr-F (BranchWith uses) (ConditionWith uses) (KindWith uses) (StmtWith uses) (PieceWith uses) (BlockWith uses) (CatchWith uses) (ExprWith uses) (LambdaWith uses) (SubjectWith uses) (WhenBranchWith uses) → Expr-F Branch Condition ExprKind Stmt StringPart Block Catch Expr Lambda Subject WhenBranch
-  expr_parts y = map-Expr (BranchWith uses) (ConditionWith uses) (KindWith uses) (StmtWith uses) (PieceWith uses) (BlockWith uses) (CatchWith uses) (ExprWith uses) (LambdaWith uses) (SubjectWith uses) (WhenBranchWith uses) Branch Condition ExprKind Stmt StringPart Block Catch Expr Lambda Subject WhenBranch (λ e. e.0) (λ e. e.0) (λ e. e.0) (λ e. e.0) (λ e. e.0) (λ e. e.0) (λ e. e.0) (λ e. e.0) (λ e. e.0) (λ e. e.0) (λ e. e.0) y
+  abbrev piece_made : Proved StringPart-F → Piece
+  piece_made y = piece_step (map-StringPart _ _ _ _ _ _ _ _ _ _ _ _ _ _ _ _ _ _ _ _ _ _ (branch_trees uses) nothing (seen_kind uses) (stmt_tree uses) (piece uses) (block_trees uses) nothing (seen uses) nothing nothing nothing (piece_parts y))
 
-  abbrev expr_made : Expr-F (BranchWith uses) (ConditionWith uses) (KindWith uses) (StmtWith uses) (PieceWith uses) (BlockWith uses) (CatchWith uses) (ExprWith uses) (LambdaWith uses) (SubjectWith uses) (WhenBranchWith uses) → Seen
-  expr_made y = expr_step (map-Expr Branch Condition ExprKind Stmt StringPart Block Catch Expr Lambda Subject WhenBranch Trees (Unit {0}) SeenKind Tree Piece Trees (Unit {0}) Seen (Unit {0}) (Unit {0}) (Unit {0}) (branch_trees uses) nothing (seen_kind uses) (stmt_tree uses) (piece uses) (block_trees uses) nothing (seen uses) nothing nothing nothing (expr_parts y))
+  abbrev block_parts : Proved Block-F → Written Block-F
+  block_parts y = map-Block _ _ _ _ _ _ _ _ _ _ _ _ _ _ _ _ _ _ _ _ _ _ (λ e. e.0) (λ e. e.0) (λ e. e.0) (λ e. e.0) (λ e. e.0) (λ e. e.0) (λ e. e.0) (λ e. e.0) (λ e. e.0) (λ e. e.0) (λ e. e.0) y
+
+  abbrev block_made : Proved Block-F → Trees
+  block_made y = block_step (map-Block _ _ _ _ _ _ _ _ _ _ _ _ _ _ _ _ _ _ _ _ _ _ (branch_trees uses) nothing (seen_kind uses) (stmt_tree uses) (piece uses) (block_trees uses) nothing (seen uses) nothing nothing nothing (block_parts y))
+
+  abbrev expr_parts : Proved Expr-F → Written Expr-F
+  expr_parts y = map-Expr _ _ _ _ _ _ _ _ _ _ _ _ _ _ _ _ _ _ _ _ _ _ (λ e. e.0) (λ e. e.0) (λ e. e.0) (λ e. e.0) (λ e. e.0) (λ e. e.0) (λ e. e.0) (λ e. e.0) (λ e. e.0) (λ e. e.0) (λ e. e.0) y
+
+  abbrev expr_made : Proved Expr-F → Seen
+  expr_made y = expr_step (map-Expr _ _ _ _ _ _ _ _ _ _ _ _ _ _ _ _ _ _ _ _ _ _ (branch_trees uses) nothing (seen_kind uses) (stmt_tree uses) (piece uses) (block_trees uses) nothing (seen uses) nothing nothing nothing (expr_parts y))
 
   -- ---- each form
 
-  kind_calls : (y : ExprKind-F (BranchWith uses) (ConditionWith uses) (KindWith uses) (StmtWith uses) (PieceWith uses) (BlockWith uses) (CatchWith uses) (ExprWith uses) (LambdaWith uses) (SubjectWith uses) (WhenBranchWith uses)) → OfKind uses (kind_made y)
+  kind_calls : (y : Proved ExprKind-F) → OfKind uses (kind_made y)
   kind_calls (ExprKind-F.Int k) = λ n at. operation_calls uses (whole n at) (Int' k) Empty' tt (none uses)
   kind_calls (ExprKind-F.Bool b) = λ n at. operation_calls uses (whole n at) (Bool' b) Empty' tt (none uses)
   kind_calls ExprKind-F.Null = λ n at. operation_calls uses (whole n at) Null' Empty' tt (none uses)
@@ -89,7 +101,7 @@ module _ (uses : ℕ → Named) where
   kind_calls (ExprKind-F.Throw e) = λ n at. throw_calls uses (whole n at) (expr_tree uses e.0) e.1
   kind_calls _ = λ n at. shut_calls uses (whole n at)
 
-  stmt_calls : (y : Stmt-F (BranchWith uses) (ConditionWith uses) (KindWith uses) (StmtWith uses) (PieceWith uses) (BlockWith uses) (CatchWith uses) (ExprWith uses) (LambdaWith uses) (SubjectWith uses) (WhenBranchWith uses)) → Calls uses (stmt_made y)
+  stmt_calls : (y : Proved Stmt-F) → Calls uses (stmt_made y)
   stmt_calls (Stmt-F.Expr e) = e.1
   stmt_calls (Stmt-F.Local n span is_var ident written None) = local_calls uses (uses n) (named_there n span ident.span) None tt
   stmt_calls (Stmt-F.Local n span is_var ident written (Some e)) = local_calls uses (uses n) (named_there n span ident.span) (Some (seen uses e.0)) e.1
@@ -99,39 +111,39 @@ module _ (uses : ℕ → Named) where
   stmt_calls (Stmt-F.DoWhile n span b c) = shut_calls uses (whole n span)
   stmt_calls (Stmt-F.For n span x written low p high b) = shut_calls uses (whole n span)
 
-  branch_calls : (y : Branch-F (BranchWith uses) (ConditionWith uses) (KindWith uses) (StmtWith uses) (PieceWith uses) (BlockWith uses) (CatchWith uses) (ExprWith uses) (LambdaWith uses) (SubjectWith uses) (WhenBranchWith uses)) → AllCalls uses (branch_made y)
+  branch_calls : (y : Proved Branch-F) → AllCalls uses (branch_made y)
   branch_calls (Branch-F.Braced b) = b.1
   branch_calls (Branch-F.Single s) = alone uses (stmt_tree uses s.0) s.1
 
-  piece_calls : (y : StringPart-F (BranchWith uses) (ConditionWith uses) (KindWith uses) (StmtWith uses) (PieceWith uses) (BlockWith uses) (CatchWith uses) (ExprWith uses) (LambdaWith uses) (SubjectWith uses) (WhenBranchWith uses)) → OfPiece uses (piece_made y)
+  piece_calls : (y : Proved StringPart-F) → OfPiece uses (piece_made y)
   piece_calls (StringPart-F.Text bytes) = tt
   piece_calls (StringPart-F.Inserted e) = e.1
 
   -- ---- the induction
 
-  step_branch : (x : Branch-F Branch Condition ExprKind Stmt StringPart Block Catch Expr Lambda Subject WhenBranch) (y : Branch-F (BranchWith uses) (ConditionWith uses) (KindWith uses) (StmtWith uses) (PieceWith uses) (BlockWith uses) (CatchWith uses) (ExprWith uses) (LambdaWith uses) (SubjectWith uses) (WhenBranchWith uses)) → branch_parts y ≡ x → AllCalls uses (branch_trees uses (v.roll-Branch x))
+  step_branch : (x : Written Branch-F) (y : Proved Branch-F) → branch_parts y ≡ x → AllCalls uses (branch_trees uses (v.roll-Branch x))
   unfolding seen seen_kind stmt_tree block_trees branch_trees piece
   step_branch x y is = subst (λ z. AllCalls uses (branch_trees uses (v.roll-Branch z))) is (subst (AllCalls uses) (sym (fold-roll-Branch Trees (Unit {0}) SeenKind Tree Piece Trees (Unit {0}) Seen (Unit {0}) (Unit {0}) (Unit {0}) branch_step nothing (kind_step uses) (stmt_step uses) piece_step block_step nothing expr_step nothing nothing nothing (branch_parts y))) (branch_calls y))
 
-  step_kind : (x : ExprKind-F Branch Condition ExprKind Stmt StringPart Block Catch Expr Lambda Subject WhenBranch) (y : ExprKind-F (BranchWith uses) (ConditionWith uses) (KindWith uses) (StmtWith uses) (PieceWith uses) (BlockWith uses) (CatchWith uses) (ExprWith uses) (LambdaWith uses) (SubjectWith uses) (WhenBranchWith uses)) → kind_parts y ≡ x → OfKind uses (seen_kind uses (v.roll-ExprKind x))
+  step_kind : (x : Written ExprKind-F) (y : Proved ExprKind-F) → kind_parts y ≡ x → OfKind uses (seen_kind uses (v.roll-ExprKind x))
   unfolding seen seen_kind stmt_tree block_trees branch_trees piece
   step_kind x y is = subst (λ z. OfKind uses (seen_kind uses (v.roll-ExprKind z))) is (subst (OfKind uses) (sym (fold-roll-ExprKind Trees (Unit {0}) SeenKind Tree Piece Trees (Unit {0}) Seen (Unit {0}) (Unit {0}) (Unit {0}) branch_step nothing (kind_step uses) (stmt_step uses) piece_step block_step nothing expr_step nothing nothing nothing (kind_parts y))) (kind_calls y))
 
-  step_stmt : (x : Stmt-F Branch Condition ExprKind Stmt StringPart Block Catch Expr Lambda Subject WhenBranch) (y : Stmt-F (BranchWith uses) (ConditionWith uses) (KindWith uses) (StmtWith uses) (PieceWith uses) (BlockWith uses) (CatchWith uses) (ExprWith uses) (LambdaWith uses) (SubjectWith uses) (WhenBranchWith uses)) → stmt_parts y ≡ x → Calls uses (stmt_tree uses (v.roll-Stmt x))
+  step_stmt : (x : Written Stmt-F) (y : Proved Stmt-F) → stmt_parts y ≡ x → Calls uses (stmt_tree uses (v.roll-Stmt x))
   unfolding seen seen_kind stmt_tree block_trees branch_trees piece
   step_stmt x y is = subst (λ z. Calls uses (stmt_tree uses (v.roll-Stmt z))) is (subst (Calls uses) (sym (fold-roll-Stmt Trees (Unit {0}) SeenKind Tree Piece Trees (Unit {0}) Seen (Unit {0}) (Unit {0}) (Unit {0}) branch_step nothing (kind_step uses) (stmt_step uses) piece_step block_step nothing expr_step nothing nothing nothing (stmt_parts y))) (stmt_calls y))
 
-  step_piece : (x : StringPart-F Branch Condition ExprKind Stmt StringPart Block Catch Expr Lambda Subject WhenBranch) (y : StringPart-F (BranchWith uses) (ConditionWith uses) (KindWith uses) (StmtWith uses) (PieceWith uses) (BlockWith uses) (CatchWith uses) (ExprWith uses) (LambdaWith uses) (SubjectWith uses) (WhenBranchWith uses)) → piece_parts y ≡ x → OfPiece uses (piece uses (v.roll-StringPart x))
+  step_piece : (x : Written StringPart-F) (y : Proved StringPart-F) → piece_parts y ≡ x → OfPiece uses (piece uses (v.roll-StringPart x))
   unfolding seen seen_kind stmt_tree block_trees branch_trees piece
   step_piece x y is = subst (λ z. OfPiece uses (piece uses (v.roll-StringPart z))) is (subst (OfPiece uses) (sym (fold-roll-StringPart Trees (Unit {0}) SeenKind Tree Piece Trees (Unit {0}) Seen (Unit {0}) (Unit {0}) (Unit {0}) branch_step nothing (kind_step uses) (stmt_step uses) piece_step block_step nothing expr_step nothing nothing nothing (piece_parts y))) (piece_calls y))
 
-  step_block : (x : Block-F Branch Condition ExprKind Stmt StringPart Block Catch Expr Lambda Subject WhenBranch) (y : Block-F (BranchWith uses) (ConditionWith uses) (KindWith uses) (StmtWith uses) (PieceWith uses) (BlockWith uses) (CatchWith uses) (ExprWith uses) (LambdaWith uses) (SubjectWith uses) (WhenBranchWith uses)) → block_parts y ≡ x → AllCalls uses (block_trees uses (v.roll-Block x))
+  step_block : (x : Written Block-F) (y : Proved Block-F) → block_parts y ≡ x → AllCalls uses (block_trees uses (v.roll-Block x))
   unfolding seen seen_kind stmt_tree block_trees branch_trees piece
   step_block x y is = subst (λ z. AllCalls uses (block_trees uses (v.roll-Block z))) is (subst (AllCalls uses) (sym (fold-roll-Block Trees (Unit {0}) SeenKind Tree Piece Trees (Unit {0}) Seen (Unit {0}) (Unit {0}) (Unit {0}) branch_step nothing (kind_step uses) (stmt_step uses) piece_step block_step nothing expr_step nothing nothing nothing (block_parts y))) (listed_calls uses y.statements))
 
-  step_expr : (x : Expr-F Branch Condition ExprKind Stmt StringPart Block Catch Expr Lambda Subject WhenBranch) (y : Expr-F (BranchWith uses) (ConditionWith uses) (KindWith uses) (StmtWith uses) (PieceWith uses) (BlockWith uses) (CatchWith uses) (ExprWith uses) (LambdaWith uses) (SubjectWith uses) (WhenBranchWith uses)) → expr_parts y ≡ x → (λ (e : Seen). Calls uses e.tree) (seen uses (v.roll-Expr x))
+  step_expr : (x : Written Expr-F) (y : Proved Expr-F) → expr_parts y ≡ x → Calls uses (expr_tree uses (v.roll-Expr x))
   unfolding seen seen_kind stmt_tree block_trees branch_trees piece
-  step_expr x y is = subst (λ z. (λ (e : Seen). Calls uses e.tree) (seen uses (v.roll-Expr z))) is (subst (λ (e : Seen). Calls uses e.tree) (sym (fold-roll-Expr Trees (Unit {0}) SeenKind Tree Piece Trees (Unit {0}) Seen (Unit {0}) (Unit {0}) (Unit {0}) branch_step nothing (kind_step uses) (stmt_step uses) piece_step block_step nothing expr_step nothing nothing nothing (expr_parts y))) (y.kind.1 y.number y.span))
+  step_expr x y is = subst (λ z. Calls uses (expr_tree uses (v.roll-Expr z))) is (subst (λ (e : Seen). Calls uses e.tree) (sym (fold-roll-Expr Trees (Unit {0}) SeenKind Tree Piece Trees (Unit {0}) Seen (Unit {0}) (Unit {0}) (Unit {0}) branch_step nothing (kind_step uses) (stmt_step uses) piece_step block_step nothing expr_step nothing nothing nothing (expr_parts y))) (y.kind.1 y.number y.span))
 
   pub expr_calls : (e : Expr) → Calls uses (expr_tree uses e)
   expr_calls e = ind-Expr (λ x. AllCalls uses (branch_trees uses x)) (λ x. ⊤) (λ x. OfKind uses (seen_kind uses x)) (λ x. Calls uses (stmt_tree uses x)) (λ x. OfPiece uses (piece uses x)) (λ x. AllCalls uses (block_trees uses x)) (λ x. ⊤) (λ x. Calls uses (expr_tree uses x)) (λ x. ⊤) (λ x. ⊤) (λ x. ⊤) step_branch (λ x y is. tt) step_kind step_stmt step_piece step_block (λ x y is. tt) step_expr (λ x y is. tt) (λ x y is. tt) (λ x y is. tt) e
