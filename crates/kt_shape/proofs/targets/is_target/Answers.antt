@@ -1,0 +1,17 @@
+use Rattle.std.proofs.Common.{◌≡◌, true, false, ap, sym, ◌∙◌}
+use Rattle.kt_model.specs.ShapeRules.{no_finding, assign_target}
+use Rattle.kt_model.specs.TreeWalks.{kind_parts, is_dot}
+use Rattle.kt_shape.proofs.WalkFolds as fold
+use Rattle.kt_shape.proofs.targets.is_target.Goals as goal
+
+pub returns-in-Name : goal.returns-in-Name
+returns-in-Name c = sym (ap (λ k. (kind_parts no_finding assign_target k).is_target) c.in-Name.is ∙ ap (λ g. g.is_target) (fold.kind_name no_finding assign_target _))
+
+pub returns-in-Dot : goal.returns-in-Dot
+returns-in-Dot c = sym (ap (λ k. (kind_parts no_finding assign_target k).is_target) c.in-Member.is ∙ ap (λ g. g.is_target) (fold.kind_member no_finding assign_target _ _ _) ∙ ap is_dot c.in-Dot.is)
+
+pub returns-in-Safe : goal.returns-in-Safe
+returns-in-Safe c = sym (ap (λ k. (kind_parts no_finding assign_target k).is_target) c.in-Member.is ∙ ap (λ g. g.is_target) (fold.kind_member no_finding assign_target _ _ _) ∙ ap is_dot c.in-Safe.is)
+
+pub returns-in_default : goal.returns-in_default
+returns-in_default c = sym (fold.not_target no_finding assign_target c.args.kind.now c.in_default.not-Name c.in_default.not-Member)
