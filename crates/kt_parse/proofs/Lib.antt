@@ -1,2 +1,5 @@
-pub mod Laws
+pub mod KeptNames
+pub mod EngineLaws
+pub mod Parsing
 pub mod Reach
+pub mod Weights

@@ -45,7 +45,7 @@ Settles ts k s (Ok (Some x)) k' s' = Leads ts k s (Do x ∷ k') s' × (is_silent
 Settles ts k s (Ok None) k' s' = Reads ts k s (Ok s')
 Settles ts k s (Err e) k' s' = Stops ts k s e
 
--- a whole file is read
-abbrev pub Runs : Tokens → Result State ParseFault → Type 0
-Runs ts (Ok s) = Reads ts whole start (Ok s)
-Runs ts (Err e) = Stops ts whole start e
+-- a whole file is read, and this is the state after it
+abbrev pub Finishes : Tokens → Result (Unit {0}) ParseFault → State → Type 0
+Finishes ts (Ok u) s = Reads ts whole start (Ok s)
+Finishes ts (Err e) s = Stops ts whole start e

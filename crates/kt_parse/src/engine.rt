@@ -3,11 +3,12 @@ ghost use Rattle.std.specs.Prelude.{◌≡◌, ◌∷◌, ◌+◌, ◌<◌, ◌�
 ghost use Rattle.kt_tree.specs.Classes.{class_at};
 ghost use Rattle.kt_tree.specs.Derives as spec;
 ghost use Rattle.kt_parse.specs.Engine as engine;
-ghost use Rattle.kt_parse.specs.Engine.{Goes, Settles, Runs};
+ghost use Rattle.kt_parse.specs.Engine.{Goes, Settles, Finishes};
 ghost use Rattle.kt_parse.specs.Reach.{reach};
 ghost use Rattle.kt_tree.specs.declared.grammar.production.Symbol.TheVariants.{Do, Part};
 
 use crate::pending::push_all;
+use crate::release::let_go;
 use crate::step::{do_step, is_silent, misfit};
 use kt_grammar::{class_of, expansion};
 use kt_tree::Tokens;
@@ -96,24 +97,31 @@ fn settle(
     Ok(None)
 }
 
-/// Reads a whole file.
-fn run(alloc: Global, tokens: &Tokens) -> Result<State, ParseFault>
-    ensures { Runs tokens.now result }
+/// Reads a whole file into a state in which nothing is read yet.
+fn run(alloc: Global, tokens: &Tokens, state: &mut State) -> Result<(), ParseFault>
+    requires { state.old ≡ spec.start }
+    ensures { Finishes tokens.now result state.new }
 {
-    let mut state = State {
-        at: 0,
-        depth: 0,
-        high: false,
-        values: Values::new(alloc),
-    };
     let mut pending = Values::new(alloc);
     pending.push(Symbol::Part(Nonterminal::File))?;
     'tokens: loop {
         let class = class_of(tokens, state.at as usize);
-        match settle(alloc, tokens, class, &mut pending, &mut state)? {
-            Some(step) => taking(alloc, tokens, class, step, &pending, &mut state)?,
-            None => return Ok(state),
+        match settle(alloc, tokens, class, &mut pending, state)? {
+            Some(step) => taking(alloc, tokens, class, step, &pending, state)?,
+            None => return Ok(()),
         }
+    }
+}
+
+/// A state in which nothing is read yet.
+fn start(alloc: Global) -> State
+    ensures { result ≡ spec.start }
+{
+    State {
+        at: 0,
+        depth: 0,
+        high: false,
+        values: Values::new(alloc),
     }
 }
 
@@ -138,8 +146,14 @@ fn last_of(alloc: Global, state: State) -> Phrase
 fn phrase_of(alloc: Global, tokens: &Tokens) -> Result<Phrase, ParseFault>
     ensures { spec.Answers tokens.now result }
 {
-    let state = run(alloc, tokens)?;
-    Ok(last_of(alloc, state))
+    let mut state = start(alloc);
+    match run(alloc, tokens, &mut state) {
+        Ok(()) => Ok(last_of(alloc, state)),
+        Err(fault) => {
+            let_go(state.values);
+            Err(fault)
+        }
+    }
 }
 
 /// The phrase of all tokens, exactly where they derive one. Else `Syntax` at the first token that no row and no expected terminal fits, or

@@ -1,4 +1,4 @@
-use crate::read;
+use crate::{parse, read};
 use kt_tree::grammar::Form;
 use kt_tree::{Kind, Names, Span, Token, Tokens};
 use sqlite_items::Items;
@@ -24,5 +24,14 @@ fn a_file_without_declarations(rt: HostRuntime) -> Result<(), Fail> {
     let phrase = read(rt.alloc(), &tokens)?;
     assert_eq!(rt; phrase.form, Form::List);
     assert_eq!(rt; phrase.parts.len(), 0);
+    Ok(())
+}
+
+#[test]
+fn a_file_without_functions(rt: HostRuntime) -> Result<(), Fail> {
+    let tokens = end_alone(rt.alloc())?;
+    let file = parse(rt.alloc(), &tokens)?;
+    assert_eq!(rt; file.classes.len(), 0);
+    assert_eq!(rt; file.functions.len(), 0);
     Ok(())
 }

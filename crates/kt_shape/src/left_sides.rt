@@ -6,10 +6,10 @@ ghost use Rattle.kt_model.specs.TreeWalks.{kind_parts, expr_parts, expr_gives, s
 
 use crate::targets::is_target;
 use kt_model::finding::{Finding, Rule};
-use kt_tree::{NoMemory, Span};
 use kt_tree::ast::{
     Block, Branch, Catch, Condition, Expr, ExprKind, Lambda, Stmt, StringPart, Subject, WhenBranch,
 };
+use kt_tree::{NoMemory, Span};
 use sqlite_items::Boxed;
 
 /// What has been found so far.

@@ -6,5 +6,7 @@ mod declarations;
 mod findings;
 mod left_sides;
 mod targets;
+#[cfg(test)]
+mod tests;
 
 pub use findings::shapes;

@@ -1,4 +1,4 @@
-use Rattle.kt_parse.proofs.Laws.{open_goes, open_less, open_stops}
+use Rattle.kt_parse.proofs.EngineLaws.{open_goes, open_less, open_stops}
 use Rattle.kt_parse.proofs.engine.open.Goals as goal
 
 pub returns-in_ok-push_all-in-Some-clause-goes : goal.returns-in_ok-push_all-in-Some-clause-goes

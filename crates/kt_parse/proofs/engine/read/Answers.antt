@@ -1,4 +1,4 @@
-use Rattle.kt_parse.proofs.Laws.{only}
+use Rattle.kt_parse.proofs.EngineLaws.{only}
 use Rattle.kt_parse.proofs.engine.read.Goals as goal
 
 pub returns-clause-only : goal.returns-clause-only

@@ -1,5 +1,5 @@
 use Rattle.std.proofs.Common.{Ok}
-use Rattle.kt_parse.proofs.Laws.{finished}
+use Rattle.kt_parse.proofs.EngineLaws.{finished}
 use Rattle.kt_parse.proofs.engine.settle.Goals as goal
 
 pub returns-clause-settles : goal.returns-clause-settles

@@ -1,4 +1,4 @@
-use Rattle.kt_parse.proofs.Laws.{goes_by, place_silent}
+use Rattle.kt_parse.proofs.EngineLaws.{goes_by, place_silent}
 use Rattle.kt_parse.proofs.engine.silent.Goals as goal
 
 pub returns-clause-goes : goal.returns-clause-goes

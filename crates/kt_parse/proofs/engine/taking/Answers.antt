@@ -1,4 +1,4 @@
-use Rattle.kt_parse.proofs.Laws.{goes_by, place_takes}
+use Rattle.kt_parse.proofs.EngineLaws.{goes_by, place_takes}
 use Rattle.kt_parse.proofs.engine.taking.Goals as goal
 
 pub returns-clause-goes : goal.returns-clause-goes

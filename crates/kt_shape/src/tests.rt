@@ -1,0 +1,116 @@
+//! A file whose left sides may be assigned, and one with left sides that may not.
+use crate::shapes;
+use kt_model::finding::{Finding, PhaseFault, Rule};
+use kt_tree::ast::{
+    Access, Assignment, Block, Expr, ExprKind, File, FunctionBody, FunctionDecl, Ident, Stmt,
+};
+use kt_tree::{Names, NoMemory, Span};
+use sqlite_items::{Boxed, Items};
+use std::alloc::Global;
+use std::test::Fail;
+
+/// A span that begins there.
+fn at(start: u32) -> Span {
+    Span { start, end: start }
+}
+
+fn ident(name: u32, start: u32) -> Ident {
+    Ident {
+        name,
+        span: at(start),
+    }
+}
+
+/// A tree with that number, which stands at ten times the number.
+fn tree(number: u32, kind: ExprKind) -> Expr {
+    Expr {
+        number,
+        span: at(10 * number),
+        kind,
+    }
+}
+
+/// A member of a name, which is the tree with the number behind that one.
+fn member(alloc: Global, number: u32, access: Access) -> Result<Expr, NoMemory> {
+    let receiver = Boxed::new(alloc, tree(number + 1, ExprKind::Name(30)))?;
+    Ok(tree(
+        number,
+        ExprKind::Member {
+            receiver,
+            access,
+            name: ident(31, 10 * number),
+        },
+    ))
+}
+
+/// The assignment of a number to that left side.
+fn assign(number: u32, target: Expr) -> Stmt {
+    Stmt::Assign {
+        number,
+        span: at(10 * number),
+        target,
+        assignment: Assignment::Plain,
+        value: Some(tree(100 + number, ExprKind::Int(1))),
+    }
+}
+
+/// A file with one function.
+fn file_of(alloc: Global, statements: Items<Stmt>) -> Result<File, NoMemory> {
+    let mut functions = Items::new(alloc);
+    functions.push(FunctionDecl {
+        span: at(0),
+        modifiers: Items::new(alloc),
+        name: ident(29, 5),
+        parameters: Items::new(alloc),
+        result: None,
+        body: Some(FunctionBody::Block {
+            contract: None,
+            block: Block {
+                span: at(0),
+                statements,
+            },
+        }),
+    })?;
+    Ok(File {
+        classes: Items::new(alloc),
+        functions,
+        names: Names::with_built_in(alloc)?,
+    })
+}
+
+#[test]
+fn names_and_members_may_be_assigned(rt: HostRuntime) -> Result<(), Fail> {
+    let alloc = rt.alloc();
+    let mut statements = Items::new(alloc);
+    statements.push(assign(1, tree(2, ExprKind::Name(30))))?;
+    statements.push(assign(3, member(alloc, 4, Access::Dot)?))?;
+    let file = file_of(alloc, statements)?;
+    let answer = shapes(alloc, &file);
+    assert!(rt; answer.is_ok());
+    Ok(())
+}
+
+#[test]
+fn others_are_found_in_order(rt: HostRuntime) -> Result<(), Fail> {
+    let alloc = rt.alloc();
+    let mut statements = Items::new(alloc);
+    statements.push(assign(7, tree(8, ExprKind::This)))?;
+    statements.push(assign(1, member(alloc, 2, Access::Safe)?))?;
+    statements.push(assign(4, tree(5, ExprKind::Name(30))))?;
+    let file = file_of(alloc, statements)?;
+    let Err(PhaseFault::Findings(found)) = shapes(alloc, &file) else {
+        return Err(Fail::from("accepted"));
+    };
+    let wanted = [
+        Finding {
+            rule: Rule::AssignTarget,
+            span: at(20),
+        },
+        Finding {
+            rule: Rule::AssignTarget,
+            span: at(80),
+        },
+    ];
+    assert!(rt; found.as_slice() == wanted.as_slice());
+    Ok(())
+}

@@ -1,0 +1,2 @@
+pub mod SourceRules
+pub mod Stages
