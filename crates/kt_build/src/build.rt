@@ -17,13 +17,13 @@ use crate::operations::{
     and_kind, cast_kind, compare_kind, elvis_kind, equal_kind, is_type, or_kind, prefixed_kind,
     product_kind, sum_kind,
 };
-use kt_parts::places::{after_dollar, span_between};
-use kt_parts::Queue;
 use crate::statements::{
     assignment_form, block_form, catch_clause, condition_branch, do_while, else_branch, for_loop,
     lambda, lambda_parameter_form, local, subject, subject_name, type_condition, while_loop,
 };
 use kt_grammar::is_tree;
+use kt_parts::Queue;
+use kt_parts::places::{after_dollar, span_between};
 use kt_tree::ast::{Expr, ExprKind};
 use kt_tree::grammar::{Built, Form, Phrase};
 use kt_tree::{Span, Tokens};

@@ -2,9 +2,9 @@
 ghost use Rattle.std.specs.Prelude.{◌≡◌, [], IfOk};
 ghost use Rattle.kt_tree.specs.Trees as trees;
 
+use kt_parts::Queue;
 use kt_parts::operators::{is_var, maybe_var, returned_literal};
 use kt_parts::places::span_at;
-use kt_parts::Queue;
 use kt_tree::ast::{
     Block, ClassDecl, ClassKeyword, ClassParameter, Contract, Effect, EffectKind, FunctionDecl,
     Getter, Parameter, PropertyDecl, Returned, Supertype, TypeRef,

@@ -2,9 +2,9 @@
 ghost use Rattle.std.specs.Prelude.{◌≡◌, [], IfOk};
 ghost use Rattle.kt_tree.specs.Trees as trees;
 
+use kt_parts::Queue;
 use kt_parts::operators::{is_true, label_at, maybe_boxed};
 use kt_parts::places::{kind_at, name_at, value_at};
-use kt_parts::Queue;
 use kt_tree::ast::{Access, ExprKind, Member};
 use kt_tree::grammar::Built;
 use kt_tree::{Kind, Tokens};

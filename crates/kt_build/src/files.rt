@@ -4,8 +4,8 @@ ghost use Rattle.kt_tree.specs.BuiltIn.{with_texts};
 ghost use Rattle.kt_tree.specs.Trees.{classes_in, functions_in};
 ghost use Rattle.kt_build.specs.File.{file_of};
 
-use kt_parts::Queue;
 use crate::whole::build;
+use kt_parts::Queue;
 use kt_tree::ast::{ClassDecl, File, FunctionDecl};
 use kt_tree::grammar::{Built, Phrase};
 use kt_tree::{Names, NoMemory, Tokens};

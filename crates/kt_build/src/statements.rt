@@ -2,9 +2,9 @@
 ghost use Rattle.std.specs.Prelude.{◌≡◌, [], IfOk};
 ghost use Rattle.kt_tree.specs.Trees as trees;
 
+use kt_parts::Queue;
 use kt_parts::operators::{assignment, is_var, progression};
 use kt_parts::places::{kind_at, span_at};
-use kt_parts::Queue;
 use kt_tree::ast::{Block, Catch, Condition, Lambda, LambdaParameter, Stmt, Subject, WhenBranch};
 use kt_tree::grammar::Built;
 use kt_tree::{Kind, Span, Tokens};

@@ -3,8 +3,8 @@ ghost use Rattle.std.specs.Prelude.{◌≡◌, ◌++◌, map, OnOk};
 ghost use Rattle.kt_tree.specs.Trees as trees;
 
 use crate::build::assembled;
-use kt_parts::Queue;
 use kt_grammar::is_tree;
+use kt_parts::Queue;
 use kt_tree::Tokens;
 use kt_tree::grammar::{Built, Form, Phrase};
 use std::alloc::{AllocError, Global};
