@@ -21,8 +21,9 @@ fn ident(name: u32, start: u32) -> Ident {
     }
 }
 
-/// A tree with that number, which stands at ten times the number.
-fn tree(number: u32, kind: ExprKind) -> Expr {
+/// A tree with that number, which stands at its tenfold.
+fn tree(number: u8, kind: ExprKind) -> Expr {
+    let number = u32::from(number);
     Expr {
         number,
         span: at(10 * number),
@@ -30,27 +31,27 @@ fn tree(number: u32, kind: ExprKind) -> Expr {
     }
 }
 
-/// A member of a name, which is the tree with the number behind that one.
-fn member(alloc: Global, number: u32, access: Access) -> Result<Expr, NoMemory> {
-    let receiver = Boxed::new(alloc, tree(number + 1, ExprKind::Name(30)))?;
+/// A member of a name, which is the tree with the other number.
+fn member(alloc: Global, number: u8, of: u8, access: Access) -> Result<Expr, NoMemory> {
+    let receiver = Boxed::new(alloc, tree(of, ExprKind::Name(30)))?;
     Ok(tree(
         number,
         ExprKind::Member {
             receiver,
             access,
-            name: ident(31, 10 * number),
+            name: ident(31, 500),
         },
     ))
 }
 
-/// The assignment of a number to that left side.
+/// The assignment of a number, which is the tree 100, to that left side.
 fn assign(number: u32, target: Expr) -> Stmt {
     Stmt::Assign {
         number,
-        span: at(10 * number),
+        span: at(number),
         target,
         assignment: Assignment::Plain,
-        value: Some(tree(100 + number, ExprKind::Int(1))),
+        value: Some(tree(100, ExprKind::Int(1))),
     }
 }
 
@@ -83,7 +84,7 @@ fn names_and_members_may_be_assigned(rt: HostRuntime) -> Result<(), Fail> {
     let alloc = rt.alloc();
     let mut statements = Items::new(alloc);
     statements.push(assign(1, tree(2, ExprKind::Name(30))))?;
-    statements.push(assign(3, member(alloc, 4, Access::Dot)?))?;
+    statements.push(assign(3, member(alloc, 4, 5, Access::Dot)?))?;
     let file = file_of(alloc, statements)?;
     let answer = shapes(alloc, &file);
     assert!(rt; answer.is_ok());
@@ -95,7 +96,7 @@ fn others_are_found_in_order(rt: HostRuntime) -> Result<(), Fail> {
     let alloc = rt.alloc();
     let mut statements = Items::new(alloc);
     statements.push(assign(7, tree(8, ExprKind::This)))?;
-    statements.push(assign(1, member(alloc, 2, Access::Safe)?))?;
+    statements.push(assign(1, member(alloc, 2, 3, Access::Safe)?))?;
     statements.push(assign(4, tree(5, ExprKind::Name(30))))?;
     let file = file_of(alloc, statements)?;
     let Err(PhaseFault::Findings(found)) = shapes(alloc, &file) else {
