@@ -22,7 +22,7 @@ pub use inheritance::{implementation, is_sub, member};
 pub use meeting::{have_one_shape, same_type};
 pub use outlines::{has_member_function, written_type};
 pub use reading::{candidates, declares, fitting, member_row, own_row, result_fits, result_same};
-pub use sites::{body_gives_unit, push_where};
+pub use sites::{body_gives_unit, is_main_function, push_where};
 pub use supertypes::{is_among, is_interface_keyword, is_modifier, kind_of_class};
 pub use table::classes;
 pub use words::{class_body, constructor_parameters};

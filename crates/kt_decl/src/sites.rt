@@ -294,8 +294,9 @@ fn has_no_parameters(parameters: &[Parameter]) -> bool
     }
 }
 
+/// Whether a function is `main`: it has that name, no parameters, and the result `Unit`.
 #[tactic(auto, unfolding(kt_model::specs::DeclarationRules::is_main))]
-fn is_main_function(tops: &TopNames, f: &FunctionDecl) -> bool
+pub fn is_main_function(tops: &TopNames, f: &FunctionDecl) -> bool
     ensures { result ≡ is_main tops.now f.now }
 {
     f.name.name == tops.main()

@@ -90,13 +90,17 @@ count_piece (Inserted' t) ps add e f =
 length-body : (ps : List ℕ) (ts : Trees) → length (body_nodes ps ts) ≡ 3 + all_size ts
 length-body ps ts = omega (arith, length-append (all_nodes 0 ts) (end_node ∷ []), length-all_nodes 0 ts)
 
+-- the count of a body's nodes, by that of its trees
+pub nodes_counted : (ps : List ℕ) (ts : Trees) (count nodes : ℕ) → count ≡ capped (all_size ts) → Adds 3 count nodes → nodes ≡ capped (length (body_nodes ps ts))
+nodes_counted ps ts count nodes e add = add 3 (all_size ts) refl e ∙ ap capped (sym (length-body ps ts))
+
 -- a count within the limit is exact
-pub exact : (ps : List ℕ) (ts : Trees) (count nodes : ℕ) → count ≡ capped (all_size ts) → Adds 3 count nodes → nodes ≤ 65536 → nodes ≡ length (body_nodes ps ts)
-exact ps ts count nodes e add h = let sum : nodes ≡ min 65537 (3 + all_size ts) = add 3 (all_size ts) refl e in omega (arith, length-body ps ts)
+pub exact : (nodes n : ℕ) → nodes ≡ capped n → nodes ≤ 65536 → nodes ≡ n
+exact nodes n e h = let sum : nodes ≡ min 65537 n = e in omega arith
 
 -- a count past the limit is of a body that is too large
-pub large : (ps : List ℕ) (ts : Trees) (count nodes classes : ℕ) → count ≡ capped (all_size ts) → Adds 3 count nodes → 65536 < nodes → IsTooLarge (length (body_nodes ps ts)) 0 classes
-large ps ts count nodes classes e add h = let sum : nodes ≡ min 65537 (3 + all_size ts) = add 3 (all_size ts) refl e in inl (omega (arith, length-body ps ts))
+pub large : (nodes n classes : ℕ) → nodes ≡ capped n → 65536 < nodes → IsTooLarge n 0 classes
+large nodes n classes e h = let sum : nodes ≡ min 65537 n = e in inl (omega arith)
 
 -- and one within it is not
 pub small : (n classes : ℕ) → n ≤ 65536 → IsTooLarge n 0 classes → ⊥
@@ -107,5 +111,5 @@ small n classes h (inr many) = absurd (nothing_above n classes many)
     nothing_above n classes h = omega arith
 
 -- a body whose count is within the limit is not too large
-pub fits : (ps : List ℕ) (ts : Trees) (count nodes classes : ℕ) → count ≡ capped (all_size ts) → Adds 3 count nodes → nodes ≤ 65536 → IsTooLarge (length (body_nodes ps ts)) 0 classes → ⊥
-fits ps ts count nodes classes e add h = small (length (body_nodes ps ts)) classes (let same : nodes ≡ length (body_nodes ps ts) = exact ps ts count nodes e add h in omega arith)
+pub fits : (nodes n classes : ℕ) → nodes ≡ capped n → nodes ≤ 65536 → IsTooLarge n 0 classes → ⊥
+fits nodes n classes e h = small n classes (let same : nodes ≡ n = exact nodes n e h in omega arith)

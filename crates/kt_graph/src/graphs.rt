@@ -1,5 +1,5 @@
 //! The graph of a body.
-ghost use Rattle.std.specs.Prelude.{◌≡◌, ◌+◌, ◌↔◌, ◌++◌, ◌∷◌, [], List, map, length, IfOk, OnOk};
+ghost use Rattle.std.specs.Prelude.{◌≡◌, ◌+◌, ◌↔◌, ◌++◌, ◌∷◌, [], List, map, length, IfOk, IsTrue, OnOk};
 ghost use Rattle.std.specs.Option.{option_copied};
 ghost use Rattle.std.specs.List.{All, flat_map, range_with_len};
 ghost use Rattle.kt_model.specs.NameUses.{named_at};
@@ -231,6 +231,21 @@ fn numbered(alloc: Global, body: &Body<'_>, nodes: u32) -> Result<Graph, NoMemor
     })
 }
 
+/// How many nodes the graph of a body has, up to one past the most.
+fn node_count(body: &Body<'_>) -> u32
+    ensures { result ≡ capped (length (body_nodes (owner_parameters body.now.uses.now body.now.owner) (owner_trees body.now.file.now body.now.uses.now body.now.owner))) }
+{
+    let count = body_count(body.uses, written(body));
+    count::add(3, count)
+}
+
+/// Whether a body is too large for its graph: whether that has more nodes than 65,536. It takes no memory, and time in the size of the body.
+pub fn is_too_large(body: &Body<'_>) -> bool
+    ensures { IsTrue result ↔ IsTooLarge (length (body_nodes (owner_parameters body.now.uses.now body.now.owner) (owner_trees body.now.file.now body.now.uses.now body.now.owner))) 0 (length body.now.table.now) }
+{
+    node_count(body) > 65536
+}
+
 /// The control-flow graph of a body: exactly the nodes, effects and edges that the trees of the body have by definition, in the order of a sweep along
 /// the flow. Each edge joins two of the nodes. Where no two trees of the body have one number and none has 0, no two nodes have one tree, tag and copy, and
 /// an edge back leads only to a loop's head or to a hub. `TooLarge` exactly where it has more nodes than 65,536; a graph of which no facts are known has no targets, so the number of its targets and
@@ -242,8 +257,7 @@ pub fn graph(alloc: Global, body: &Body<'_>) -> Result<Graph, GraphFault>
     ensures onward { AreNumbered (owner_trees body.now.file.now body.now.uses.now body.now.owner) → IfOk result (λ g. All (IsOnward g) g.edges) }
     ensures too_large { (result ≡ Err GraphFault.TooLarge) ↔ IsTooLarge (length (body_nodes (owner_parameters body.now.uses.now body.now.owner) (owner_trees body.now.file.now body.now.uses.now body.now.owner))) 0 (length body.now.table.now) }
 {
-    let count = body_count(body.uses, written(body));
-    let nodes = count::add(3, count);
+    let nodes = node_count(body);
     if nodes > 65536 {
         return Err(GraphFault::TooLarge);
     }

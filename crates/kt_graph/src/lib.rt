@@ -10,4 +10,4 @@ mod simple;
 mod statements;
 mod walk;
 
-pub use graphs::{GraphFault, graph};
+pub use graphs::{GraphFault, graph, is_too_large};

@@ -4,28 +4,20 @@ use Rattle.kt_model.specs.Bodies.{owner_trees, owner_parameters, IsTooLarge}
 use Rattle.kt_model.specs.NodeKeys.{AreDistinct}
 use Rattle.kt_model.proofs.NodeKeyLaws.{distinct_nodes}
 use Rattle.kt_model.proofs.PlaceLaws.{edges_are_onward, edges_are_within}
-use Rattle.kt_graph.proofs.Counts.{all_counted, exact, large, fits}
+use Rattle.kt_graph.proofs.Counts.{exact, large, fits}
 use Rattle.kt_graph.proofs.graphs.graph.Goals as goal
 
 pub numbered-requires : goal.numbered-requires
-numbered-requires c =
-    let body = c.args.body.now in
-    exact (owner_parameters body.uses.now body.owner) (owner_trees body.file.now body.uses.now body.owner) _ _ (all_counted c.written.ensures c.body_count-count.ensures) c.add-nodes.ensures c.if-nodes-gt65536.false
+numbered-requires c = exact _ _ c.node_count-nodes.ensures c.if-nodes-gt65536.false
 
 pub returns-then-nodes-gt65536-clause-too_large : goal.returns-then-nodes-gt65536-clause-too_large
-returns-then-nodes-gt65536-clause-too_large c =
-    let body = c.args.body.now in
-    (λ e. large (owner_parameters body.uses.now body.owner) (owner_trees body.file.now body.uses.now body.owner) _ _ _ (all_counted c.written.ensures c.body_count-count.ensures) c.add-nodes.ensures c.if-nodes-gt65536.true, λ h. refl)
+returns-then-nodes-gt65536-clause-too_large c = (λ e. large _ _ _ c.node_count-nodes.ensures c.if-nodes-gt65536.true, λ h. refl)
 
 pub returns-in-Ok-clause-too_large : goal.returns-in-Ok-clause-too_large
-returns-in-Ok-clause-too_large c =
-    let body = c.args.body.now in
-    (λ e. cc, λ h. absurd (fits (owner_parameters body.uses.now body.owner) (owner_trees body.file.now body.uses.now body.owner) _ _ _ (all_counted c.written.ensures c.body_count-count.ensures) c.add-nodes.ensures c.if-nodes-gt65536.false h))
+returns-in-Ok-clause-too_large c = (λ e. cc, λ h. absurd (fits _ _ _ c.node_count-nodes.ensures c.if-nodes-gt65536.false h))
 
 pub returns-in-Err-clause-too_large : goal.returns-in-Err-clause-too_large
-returns-in-Err-clause-too_large c =
-    let body = c.args.body.now in
-    (λ e. cc, λ h. absurd (fits (owner_parameters body.uses.now body.owner) (owner_trees body.file.now body.uses.now body.owner) _ _ _ (all_counted c.written.ensures c.body_count-count.ensures) c.add-nodes.ensures c.if-nodes-gt65536.false h))
+returns-in-Err-clause-too_large c = (λ e. cc, λ h. absurd (fits _ _ _ c.node_count-nodes.ensures c.if-nodes-gt65536.false h))
 
 pub returns-in-Ok-clause-within : goal.returns-in-Ok-clause-within
 returns-in-Ok-clause-within c =

@@ -1,0 +1,14 @@
+pub mod NoteLemmas
+pub mod PartNotes
+pub mod Puts
+pub mod Locals
+pub mod Lookup
+pub mod Adding
+pub mod Violated
+pub mod Sized
+pub mod Paths
+pub mod Entered
+pub mod Rising
+pub mod Strays
+pub mod Ordered
+pub mod AtNode

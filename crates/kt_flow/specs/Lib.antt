@@ -1,0 +1,4 @@
+pub mod Notes
+pub mod Against
+pub mod Statuses
+pub mod Sizes

@@ -1,0 +1,78 @@
+//! The rules along the paths of a body.
+ghost use Rattle.std.specs.Prelude.{◌≡◌, ◌↔◌, [], length, IfOk, IsTrue};
+ghost use Rattle.kt_model.specs.Bodies.{owner_parameters, owner_trees, IsTooLarge};
+ghost use Rattle.kt_model.specs.ControlFlow.{body_nodes};
+ghost use Rattle.kt_model.specs.Findings.{AreFindings};
+ghost use Rattle.kt_model.specs.FlowRules.{IsFlowViolated, SettlesEntered};
+ghost use Rattle.kt_init.specs.Statuses.{Analyses};
+ghost use Rattle.kt_flow.specs.Notes.{RiseFromZero, AreRising};
+ghost use Rattle.kt_flow.specs.Against.{IsAgainstBefore};
+
+use crate::along::Paths;
+use crate::notes::TreeNote;
+use crate::walk::notes_of;
+use kt_graph::graph;
+use kt_init::{Init, analyse, is_graph};
+use kt_model::finding::{Findings, in_order};
+use kt_model::graph::Graph;
+use kt_model::uses::Body;
+use kt_tree::NoMemory;
+use std::alloc::Global;
+
+/// Whether the numbers of the trees rise from above 0.
+fn are_numbered(notes: &[TreeNote]) -> bool
+    ensures { IsTrue result ↔ RiseFromZero notes.now }
+{
+    let mut last = 0;
+    for note in notes {
+        if note.tree <= last {
+            return false;
+        }
+        last = note.tree;
+    }
+    true
+}
+
+/// What is violated along the paths of a graph, by the notes of its trees and the statuses there, in the order of findings, none twice.
+fn found_in_order(
+    alloc: Global,
+    notes: &[TreeNote],
+    graph: &Graph,
+    init: &Init,
+) -> Result<Findings, NoMemory>
+    requires rising { AreRising notes.now }
+    requires analysed { Analyses graph.now init.now }
+    ensures { IfOk result (AreFindings (IsAgainstBefore notes.now graph.now (length graph.now.nodes))) }
+{
+    let Ok(end) = u32::try_from(graph.nodes.len()) else {
+        return Err(NoMemory);
+    };
+    let paths = Paths { notes, graph, init };
+    let mut found = Vec::new(alloc);
+    paths.add_nodes(end, &mut found)?;
+    Ok(in_order(found))
+}
+
+/// What is violated along the paths of a body whose graph is not too large: exactly the reads of a local that is not assigned
+/// along every path to there (UNASSIGNED), and the assignments of a `val` or a parameter that is not unassigned along every path
+/// to there (VAL_TWICE), at nodes that are reached, sorted by start, end and code, none twice. So it is also settled which trees
+/// of the body are entered. `NoMemory` where there is none for it; so too for a body the numbers of whose trees do not rise from
+/// above 0, or that names a local of another body: no file that was read and resolved has one.
+pub fn flow(alloc: Global, body: &Body<'_>) -> Result<Findings, NoMemory>
+    requires { IsTooLarge (length (body_nodes (owner_parameters body.now.uses.now body.now.owner) (owner_trees body.now.file.now body.now.uses.now body.now.owner))) 0 (length body.now.table.now) → ⊥ }
+    ensures findings { IfOk result (AreFindings (IsFlowViolated (owner_parameters body.now.uses.now body.now.owner) (owner_trees body.now.file.now body.now.uses.now body.now.owner))) }
+    ensures entered { IfOk result (λ _. SettlesEntered (owner_parameters body.now.uses.now body.now.owner) (owner_trees body.now.file.now body.now.uses.now body.now.owner)) }
+{
+    let notes = notes_of(alloc, body)?;
+    if !are_numbered(notes.as_slice()) {
+        return Err(NoMemory);
+    }
+    let Ok(graph) = graph(alloc, body) else {
+        return Err(NoMemory);
+    };
+    if !is_graph(&graph) {
+        return Err(NoMemory);
+    }
+    let init = analyse(alloc, &graph)?;
+    found_in_order(alloc, notes.as_slice(), &graph, &init)
+}
