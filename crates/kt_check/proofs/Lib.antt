@@ -1,11 +1,5 @@
-pub mod Chains
-pub mod Routes
-pub mod Members
-pub mod Numbering
-pub mod Along
-pub mod NamesExact
 pub mod PlaceOrder
-pub mod LeastFinding
-pub mod WalkSteps
-pub mod Phases
-pub mod EverySource
+pub mod FilePhases
+pub mod BodyFindings
+pub mod OneVerdict
+pub mod MainFound

@@ -1,6 +1,3 @@
-pub mod Findings
-pub mod Marks
-pub mod NameFindings
-pub mod FlowFindings
-pub mod Numbers
+pub mod Violations
 pub mod Verdicts
+pub mod Phases

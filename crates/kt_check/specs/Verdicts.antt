@@ -1,18 +1,22 @@
 -- The verdict on a source, by the written rules.
-use Rattle.std.specs.Prelude.{ℕ, List}
-use Rattle.kt_tree.specs.declared.tree.Stmt.{Stmt}
-use Rattle.kt_model.specs.Trees.{block_trees}
-use Rattle.kt_model.specs.Graph.{graph_of}
-use Rattle.kt_model.specs.Flow.{IsDead}
-use Rattle.kt_model.specs.Rules.{IsFirstFinding, IsAccepted}
+use Rattle.std.specs.Prelude.{◌≡◌, ℕ, ◌<◌, List, length, Some}
+use Rattle.kt_tree.specs.declared.ast.declaration.File.{File}
+use Rattle.kt_model.specs.Bodies.{owner_parameters, owner_trees}
+use Rattle.kt_model.specs.FlowRules.{SettlesEntered}
+use Rattle.kt_model.specs.NameUses.{Resolved}
+use Rattle.kt_model.specs.declared.uses.Owner.TheVariants as owner
+use Rattle.kt_mean.specs.Programs.{main_of}
+use Rattle.kt_check.specs.Violations.{IsFirstFinding, IsAccepted}
 use Rattle.kt_check.specs.declared.verdict.Verdict.{Verdict}
 use Rattle.kt_check.specs.declared.verdict.Verdict.TheVariants.{Accepted, Refused}
 
--- A source is accepted with these statements: no rule is violated, and no tree of them is dead.
-pub record IsAcceptedBody (source : List ℕ) (block : List Stmt) : Type 0 where
-  pub accepted : IsAccepted source block
-  pub none_dead : (n : ℕ) → IsDead (block_trees block) (graph_of (block_trees block)) n → ⊥
+-- A source is accepted as this file with these uses: no rule is violated, `main` is the function at that place, and it is settled for each body which of its
+-- trees are entered.
+pub record IsAcceptedFile (source : List ℕ) (file : File) (uses : Resolved) (main : ℕ) : Type 0 where
+  pub accepted : IsAccepted source file uses
+  pub is_main : main_of file ≡ Some main
+  pub entered : (place : ℕ) → place < length file.functions → SettlesEntered (owner_parameters uses (owner.Function place)) (owner_trees file uses (owner.Function place))
 
 abbrev pub IsVerdict : List ℕ → Verdict → Type 0
-IsVerdict source (Accepted block) = IsAcceptedBody source block.items
+IsVerdict source (Accepted it) = IsAcceptedFile source it.file it.uses it.main
 IsVerdict source (Refused finding) = IsFirstFinding source finding

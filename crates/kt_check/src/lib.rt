@@ -1,20 +1,17 @@
-//! The rules of the straight-line language on a source: its verdict, exactly as the written rules of kt_model say.
+//! The rules of the language on a source: its verdict, exactly as the written rules say.
 //!
-//! Below stand the reader of the source (kt_read) and the trees and written rules (kt_tree, kt_model); above, the program, which reports a
-//! refusal or runs the accepted statements. The public contract is that of `check`: what is accepted violates no rule of any phase and has no
-//! dead tree; what is refused names the first finding of the first phase that has any.
+//! Below stand the phases: the reading of a source (kt_source), its declarations and members (kt_decl, kt_rules), the names in its bodies (kt_scope), left sides (kt_shape), the limits and the paths of bodies (kt_flow) and
+//! their types (kt_infer); above, the program, which reports a refusal or runs the accepted file. The public contract is that of `check`: what is accepted
+//! violates no rule of any phase; what is refused names the first finding of the first phase that has any.
 #![tactic(auto)]
 
-mod block;
+mod bodies;
 mod checking;
-mod flow;
+mod file_phases;
 pub mod laws;
-mod least;
-mod marks;
-mod names;
 #[cfg(test)]
-mod plain;
+mod tests;
 mod verdict;
 
 pub use checking::check;
-pub use verdict::Verdict;
+pub use verdict::{AcceptedFile, Verdict};

@@ -1,5 +1,5 @@
 -- A file whose names are resolved has one program, and so one run.
-use Rattle.std.proofs.Common.{◌≡◌, ℕ, Bool, Some, sym, ap, ◌∙◌}
+use Rattle.std.proofs.Common.{◌≡◌, ℕ, Bool, true, false, Some, refl, sym, ap, ◌∙◌}
 use Rattle.std.proofs.Math.Path.{fun_ext}
 use Rattle.kt_tree.specs.declared.ast.declaration.File.{File}
 use Rattle.kt_model.specs.NameUses.{Resolved}
@@ -8,7 +8,13 @@ use Rattle.kt_mean.specs.Programs.{program_of}
 use Rattle.kt_mean.specs.FileRuns.{IsDeadTree, IsProgram}
 use Rattle.kt_mean.specs.WholeRun.{whole}
 use Rattle.kt_mean.specs.EvaluationLaws.{OneRun}
-use Rattle.kt_mean.proofs.RunOnce.{same_test}
+
+-- two tests of the same facts are equal
+pub same_test : (P : Type 0) (a b : Bool) → (a ≡ true → P) → (P → a ≡ true) → (b ≡ true → P) → (P → b ≡ true) → a ≡ b
+same_test P true true f g h k = refl
+same_test P true false f g h k = sym (k (f refl))
+same_test P false true f g h k = g (h refl)
+same_test P false false f g h k = refl
 
 same_place : (a b : ℕ) → Some a ≡ Some b → a ≡ b
 same_place a b e = cc

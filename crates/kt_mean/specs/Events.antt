@@ -1,6 +1,6 @@
 -- What a run asks and prints, in order. This file knows no language.
 use Rattle.std.specs.Prelude.{ℕ, List, [], ◌∷◌, ◌++◌}
-use Rattle.kt_mean.specs.declared.value.RunEnding.{RunEnding}
+use Rattle.kt_mean.specs.declared.states.RunEnding.{RunEnding}
 
 -- `Asked` is the entering of a `readLine`; nothing asks yet.
 pub data Event : Type 0 where

@@ -1,9 +1,4 @@
 pub mod Events
-pub mod Locals
-pub mod Outcome
-pub mod Meaning
-pub mod Run
-pub mod Laws
 pub mod Frames
 pub mod Evaluation
 pub mod WholeRun

@@ -3,13 +3,10 @@
 #![tactic(auto)]
 
 mod evaluation_laws;
-mod laws;
-pub mod states;
-mod value;
+mod states;
 
 pub use evaluation_laws::{
     depth_bound_is_no_part, meaning_unfolds, numbers_wrap, one_run_of_file, whole_is_meaning,
     worked_runs,
 };
-pub use laws::{depth_is_no_part, one_run};
-pub use value::{Limit, RunEnding, Value};
+pub use states::{Limit, RunEnding, Value, Way};

@@ -1,4 +1,4 @@
-//! Values, what leaves a body before its end, limits, and how a run ends. They take the place of those of `value` with the next language.
+//! Values, what leaves a body before its end, limits, and how a run ends.
 
 /// A value of the language.
 #[derive(Clone, Copy, Debug, PartialEq, Eq)]

@@ -1,12 +1,6 @@
 pub mod Codes
 pub mod Order
-pub mod Trees
-pub mod Graph
-pub mod Paths
-pub mod Names
 pub mod NodePaths
-pub mod Flow
-pub mod Rules
 pub mod Findings
 pub mod Classes
 pub mod Subtypes

@@ -1,3 +1,8 @@
+mod accepted;
+mod large;
+mod refused_files;
+mod refused_texts;
+
 use kt_outside::{MemoryInput, MemoryLibrary, MemoryOutput};
 use ktflow::ktflow;
 use std::alloc::Global;
@@ -16,6 +21,11 @@ const PRINTED: &[u8] = b"2\n";
 const REFUSED: &[u8] = b"fun main() {\n    val x: Int\n    x = 2\n    x = 2\n    println(x)\n}\n";
 
 const REPORT: &[u8] = b"4:5-4:6 VAL_TWICE val may be assigned twice\nrefused findings=1\n";
+
+// A source whose `main` calls itself, and what its 16 calls print.
+const CALLS_ITSELF: &[u8] = b"fun main() {\n    print(1)\n    main()\n}\n";
+
+const CALLED: &[u8] = b"1111111111111111";
 
 const USAGE: &[u8] = b"usage: ktflow check FILE or ktflow run [--steps N] FILE\n";
 
@@ -62,9 +72,9 @@ fn answers(
         return Err(Fail::new("no memory"));
     };
     let answer = ktflow(alloc, &words, &mut library, &mut input, &mut to, &mut on);
-    assert_eq!(rt; answer, status);
-    assert_eq!(rt; to.written(), out);
     assert_eq!(rt; on.written(), err);
+    assert_eq!(rt; to.written(), out);
+    assert_eq!(rt; answer, status);
     Ok(())
 }
 
@@ -171,138 +181,136 @@ fn no_take_is_made(rt: HostRuntime) -> Result<(), Fail> {
     answers(&rt, rt.alloc(), Case { take: 0, ..PLAIN }, 0, PRINTED, b"")
 }
 
-#[test]
-fn steps_bound_a_run(rt: HostRuntime) -> Result<(), Fail> {
-    let words = &["run", "--steps", "5", "a.kt"];
-    answers(&rt, rt.alloc(), Case { words, ..PLAIN }, 0, PRINTED, b"")?;
-    let words = &["run", "--steps", "4", "a.kt"];
-    answers(
-        &rt,
-        rt.alloc(),
-        Case { words, ..PLAIN },
-        9,
-        b"",
-        b"limit steps\n",
-    )?;
-    let source = b"fun main() { println(1) }";
-    let words = &["run", "--steps", "2", "a.kt"];
-    let case = Case {
-        words,
-        source,
-        ..PLAIN
-    };
-    answers(&rt, rt.alloc(), case, 0, b"1\n", b"")?;
-    let words = &["run", "--steps", "1", "a.kt"];
-    answers(
-        &rt,
-        rt.alloc(),
-        Case { words, ..case },
-        9,
-        b"",
-        b"limit steps\n",
-    )
-}
-
-// Numbers of steps that are none.
-const NO_NUMBERS: [&[&str]; 7] = [
+// Words that have no shape.
+const NO_SHAPES: [&[&str]; 11] = [
     &["run", "--steps", "0", "a.kt"],
     &["run", "--steps", "+5", "a.kt"],
     &["run", "--steps", " 5", "a.kt"],
     &["run", "--steps", "00000000005", "a.kt"],
     &["run", "--steps", "9999999999", "a.kt"],
     &["run", "--steps", "", "a.kt"],
+    &["run", "--step", "5", "a.kt"],
+    &["run", "a.kt", "b.kt"],
     &["check", "a.kt"],
+    &["run"],
+    &[],
 ];
 
 #[test]
 fn other_words_have_no_shape(rt: HostRuntime) -> Result<(), Fail> {
-    for words in NO_NUMBERS {
+    for words in NO_SHAPES {
         answers(&rt, rt.alloc(), Case { words, ..PLAIN }, 2, b"", USAGE)?;
     }
     Ok(())
 }
 
-// Refused sources with their reports.
-const REPORTS: [(&[u8], &[u8]); 7] = [
+// Words with a number of steps, a source for which they are just enough, and what it prints. The entering of each tree is a step.
+const ENOUGH: [(&[&str], &[u8], &[u8]); 8] = [
+    (&["run", "--steps", "5", "a.kt"], ACCEPTED, PRINTED),
+    (&["run", "--steps", "1", "a.kt"], b"fun main() { }", b""),
     (
-        b"fun main() { println(y) }",
-        b"1:22-1:23 UNKNOWN_NAME unknown name\nrefused findings=1\n",
+        &["run", "--steps", "2", "a.kt"],
+        b"fun main() { println(1) }",
+        b"1\n",
     ),
     (
-        b"fun main() { if }",
-        b"1:14-1:16 SYNTAX unexpected token\nrefused findings=1\n",
+        &["run", "--steps", "3", "a.kt"],
+        b"fun main() { println((1)) }",
+        b"1\n",
     ),
     (
-        b"",
-        b"1:1-1:1 SYNTAX unexpected token\nrefused findings=1\n",
+        &["run", "--steps", "5", "a.kt"],
+        b"fun main() { println(1 + -2) }",
+        b"-1\n",
     ),
     (
-        b"fun main() { println(1",
-        b"1:23-1:23 SYNTAX unexpected token\nrefused findings=1\n",
+        &["run", "--steps", "4", "a.kt"],
+        b"fun main() { println(1); println(2) }",
+        b"1\n2\n",
     ),
     (
-        b"fun main() {\n\tval x = 1\n}",
-        b"2:1-2:2 SYNTAX unexpected token\nrefused findings=1\n",
+        &["run", "--steps", "5", "a.kt"],
+        b"fun main() { var x = 1; x++; println(x) }",
+        b"2\n",
     ),
     (
-        b"fun main() {\n    val x = 1\n    val y: Int\n    val x = y\n}\n",
-        b"4:9-4:10 DUPLICATE_LOCAL name is declared already\nrefused findings=1\n",
-    ),
-    (
-        b"fun main() {\n    val x = 1\n    val y: Int\n    x = y\n}\n",
-        b"4:5-4:6 VAL_TWICE val may be assigned twice\nrefused findings=1\n",
+        &["run", "--steps", "6", "a.kt"],
+        b"fun main() { var x = 1; x += 1; println(x) }",
+        b"2\n",
     ),
 ];
 
+// The same with one step less.
+const WANTING: [(&[&str], &[u8], &[u8]); 8] = [
+    (&["run", "--steps", "4", "a.kt"], ACCEPTED, b""),
+    (
+        &["run", "--steps", "1", "a.kt"],
+        b"fun main() { println(1) }",
+        b"",
+    ),
+    (
+        &["run", "--steps", "2", "a.kt"],
+        b"fun main() { println((1)) }",
+        b"",
+    ),
+    (
+        &["run", "--steps", "4", "a.kt"],
+        b"fun main() { println(1 + -2) }",
+        b"",
+    ),
+    (
+        &["run", "--steps", "3", "a.kt"],
+        b"fun main() { println(1); println(2) }",
+        b"1\n",
+    ),
+    (
+        &["run", "--steps", "4", "a.kt"],
+        b"fun main() { var x = 1; x++; println(x) }",
+        b"",
+    ),
+    (
+        &["run", "--steps", "5", "a.kt"],
+        b"fun main() { var x = 1; x += 1; println(x) }",
+        b"",
+    ),
+    (&["run", "--steps", "47", "a.kt"], CALLS_ITSELF, CALLED),
+];
+
 #[test]
-fn refusals_name_their_place(rt: HostRuntime) -> Result<(), Fail> {
-    for (source, report) in REPORTS {
-        answers(&rt, rt.alloc(), Case { source, ..PLAIN }, 1, b"", report)?;
+fn steps_bound_a_run(rt: HostRuntime) -> Result<(), Fail> {
+    for (words, source, out) in ENOUGH {
+        let case = Case {
+            words,
+            source,
+            ..PLAIN
+        };
+        answers(&rt, rt.alloc(), case, 0, out, b"")?;
+    }
+    for (words, source, out) in WANTING {
+        let case = Case {
+            words,
+            source,
+            ..PLAIN
+        };
+        answers(&rt, rt.alloc(), case, 9, out, b"limit steps\n")?;
     }
     Ok(())
 }
 
-// A `main` without statements, filled up with spaces to so many bytes.
-fn filled(alloc: Global, len: usize) -> Result<Vec<u8>, Fail> {
-    let mut source = b"fun main() { }".to_vec(alloc)?;
-    source.resize(len, b' ')?;
-    Ok(source)
-}
-
-fn answers_filled(
-    rt: &impl Abort,
-    alloc: Global,
-    len: usize,
-    status: u8,
-    err: &[u8],
-) -> Result<(), Fail> {
-    let mut words = Vec::new(alloc);
-    words.push(String::from_str(alloc, "run")?)?;
-    words.push(String::from_str(alloc, "a.kt")?)?;
-    let mut files = Vec::new(alloc);
-    files.push((String::from_str(alloc, "a.kt")?, filled(alloc, len)?))?;
-    let mut library = MemoryLibrary::new(files, 65_536, Vec::new(alloc));
-    let mut input = MemoryInput::new(Vec::new(alloc), 1, Vec::new(alloc));
-    let Ok(mut to) = MemoryOutput::new(alloc, 100, 100, Vec::new(alloc)) else {
-        return Err(Fail::new("no memory"));
-    };
-    let Ok(mut on) = MemoryOutput::new(alloc, 100, 100, Vec::new(alloc)) else {
-        return Err(Fail::new("no memory"));
-    };
-    let answer = ktflow(alloc, &words, &mut library, &mut input, &mut to, &mut on);
-    assert_eq!(rt; answer, status);
-    assert_eq!(rt; on.written(), err);
-    Ok(())
-}
-
+// 16 calls may be under way, `main` among them; the next one is a step, and then one call too many.
 #[test]
-fn a_source_has_a_greatest_length(rt: HostRuntime) -> Result<(), Fail> {
-    answers_filled(&rt, rt.alloc(), 1_048_576, 0, b"")?;
-    answers_filled(
-        &rt,
-        rt.alloc(),
-        1_048_577,
-        1,
-        b"1:1-1:1 SOURCE_TOO_LONG source is too long\nrefused findings=1\n",
-    )
+fn calls_bound_a_run(rt: HostRuntime) -> Result<(), Fail> {
+    let words = &["run", "--steps", "48", "a.kt"];
+    let source = CALLS_ITSELF;
+    let case = Case {
+        words,
+        source,
+        ..PLAIN
+    };
+    answers(&rt, rt.alloc(), case, 9, CALLED, b"limit calls\n")?;
+    let case = Case { source, ..PLAIN };
+    answers(&rt, rt.alloc(), case, 9, CALLED, b"limit calls\n")?;
+    let source = b"fun main() { main() }";
+    let case = Case { source, ..PLAIN };
+    answers(&rt, rt.alloc(), case, 9, b"", b"limit calls\n")
 }

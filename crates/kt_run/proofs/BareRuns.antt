@@ -10,7 +10,7 @@ use Rattle.kt_mean.specs.Frames.{Frame, State, Ending, Gave, Left, Over, Wrong, 
 use Rattle.kt_mean.specs.Evaluation.{Program, Function, choose, fits, spend, read, store, write, operated, most_calls, begun, call_end, with_values, block_from, block, arguments_fit, invoke, limited, called, operand_or_one, tree_at, entered, eval}
 use Rattle.kt_mean.specs.Events.{Event}
 use Rattle.kt_mean.specs.WholeRun.{whole, start}
-use Rattle.kt_run.specs.FileRun.{bare}
+use Rattle.kt_run.specs.Running.{bare}
 
 -- where the first comes to no wrong use, the second does the same
 pub record Keeps {A : Type 0} (p q : Run A) : Type 0 where

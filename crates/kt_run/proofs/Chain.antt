@@ -5,10 +5,12 @@ use Rattle.kt_outside.specs.Outside.{OutputState, Rose}
 use Rattle.kt_outside.specs.Texts.{PutsBytes, PutsWhole, PutsFront}
 use Rattle.kt_outside.proofs.PutSteps.{puts_none, puts_then, appends_then}
 use Rattle.kt_mean.specs.Events.{Event, Asked, Printed, text_of}
-use Rattle.kt_mean.specs.declared.value.Value.{Value}
-use Rattle.kt_mean.specs.declared.value.Limit.{Limit}
-use Rattle.kt_mean.specs.Outcome.{State, Ending, Gave, Over, Wrong, Outcome, Run, NotWrong, ◌>>=◌, ending_after, events_after}
-use Rattle.kt_mean.specs.Meaning.{print}
+use Rattle.std.proofs.Math.Path.{fun_ext}
+use Rattle.kt_mean.specs.declared.states.Value.{Value}
+use Rattle.kt_mean.specs.declared.states.Way.{Way}
+use Rattle.kt_mean.specs.declared.states.Limit.{Limit}
+use Rattle.kt_mean.specs.Frames.{State, Ending, Gave, Left, Over, Wrong, Outcome, Run, NotWrong, ◌>>=◌, ending_after, events_after, pure}
+use Rattle.kt_mean.specs.Evaluation.{print}
 use Rattle.kt_run.specs.declared.state.State.{State as Kept}
 use Rattle.kt_run.specs.declared.state.Halt.{Halt}
 use Rattle.kt_run.specs.declared.state.Halt.TheVariants as halt
@@ -63,10 +65,17 @@ some_more a c text more k = record {
   faults = k.faults;
 }
 
+pub none_put : (out : OutputState) → PutsWhole out out []
+none_put out = record { puts = puts_none out; faults = refl }
+
+pub short_of : (out : OutputState) (text : List ℕ) → PutsSome out out text
+short_of out text = record { put = []; appended = (puts_none out).appended; front = record { rest = text; whole_is = refl }; faults = refl }
+
 -- ---- nothing wrong
 
 first : {A B : Type 0} (e : Ending A) (f : A → Run B) → NotWrong (ending_after e f) → NotWrong e
 first (Gave a s) f h = tt
+first (Left w s) f h = tt
 first (Over k) f h = tt
 first Wrong f h = h
 
@@ -108,6 +117,7 @@ text_then p f a s t h input =
 
 pub then_runs : {A B : Type 0} (p : Run A) (f : A → Run B) (a : A) (s t : Scene) (r : Result B Halt) (u : Scene) → Runs p s (Ok a) t → Runs (f a) t r u → Runs (p >>= f) s r u
 then_runs p f a s t (Ok b) u h k = ends_then p f a s t u _ h k
+then_runs p f a s t (Err (halt.Way w)) u h k = ends_then p f a s t u _ h k
 then_runs p f a s t (Err (halt.Over l)) u h k = ends_then p f a s t u _ h k
 then_runs p f a s t (Err halt.OutputFault) u h k = record {
   front = λ input. subst (λ text. PutsFront s.out u.out text) (sym (text_then p f a s t h input)) (front_behind s.out t.out u.out (text_of h.events) _ h.puts (k.front input));
@@ -134,7 +144,19 @@ over_then {A} {B} p f s t k h = record {
   is = λ input. ap (λ (o : Outcome A). bound o f) (h.is input) ∙ ap (λ es. over_outcome {B = B} k es) (append-nil h.events);
 }
 
+abbrev left_outcome : {B : Type 0} → Way → State → List Event → Outcome B
+left_outcome w s es = record { ending = Left w s; events = es }
+
+left_then : {A B : Type 0} (p : Run A) (f : A → Run B) (s t : Scene) (w : Way) → Ends p s (λ input. Left w (seen t.state input)) t → Ends (p >>= f) s (λ input. Left w (seen t.state input)) t
+unfolding ◌>>=◌
+left_then {A} {B} p f s t w h = record {
+  events = h.events;
+  puts = h.puts;
+  is = λ input. ap (λ (o : Outcome A). bound o f) (h.is input) ∙ ap (λ es. left_outcome {B = B} w (seen t.state input) es) (append-nil h.events);
+}
+
 pub exit_runs : {A B : Type 0} (p : Run A) (f : A → Run B) (s : Scene) (h : Halt) (t : Scene) → Runs p s (Err h) t → Runs (p >>= f) s (Err h) t
+exit_runs p f s (halt.Way w) t k = left_then p f s t w k
 exit_runs p f s (halt.Over l) t k = over_then p f s t l k
 exit_runs p f s halt.OutputFault t k = record { front = λ input. subst (λ text. PutsFront s.out t.out text) (sym (text_more p f (seen s.state input))) (front_more s.out t.out _ _ (k.front input)) }
 exit_runs p f s halt.NoMemory t k = record { front = λ input. subst (λ text. PutsSome s.out t.out text) (sym (text_more p f (seen s.state input))) (some_more s.out t.out _ _ (k.front input)) }
@@ -150,14 +172,9 @@ exit_by {A} {B} p f s t k q i h = subst (λ (x : Result B Halt). Runs (p >>= f) 
 
 -- ---- what touches the state alone
 
-pub none_put : (out : OutputState) → PutsWhole out out []
-none_put out = record { puts = puts_none out; faults = refl }
-
-pub short_of : (out : OutputState) (text : List ℕ) → PutsSome out out text
-short_of out text = record { put = []; appended = (puts_none out).appended; front = record { rest = text; whole_is = refl }; faults = refl }
-
 pub quiet_runs : {A : Type 0} (p : Run A) (s : Kept) (r : Result A Halt) (t : Kept) (out : OutputState) → Quiet p s r t → Runs p (scene s out) r (scene t out)
 quiet_runs p s (Ok a) t out k = record { events = []; puts = none_put out; is = k }
+quiet_runs p s (Err (halt.Way w)) t out k = absurd k
 quiet_runs p s (Err (halt.Over l)) t out k = record { events = []; puts = none_put out; is = k }
 quiet_runs p s (Err halt.OutputFault) t out k = absurd k
 quiet_runs p s (Err halt.NoMemory) t out k = record { front = λ input. short_of out _ }
@@ -165,12 +182,14 @@ quiet_runs p s (Err halt.NoMemory) t out k = record { front = λ input. short_of
 pub quiet_then : {A B : Type 0} (p : Run A) (f : A → Run B) (a : A) (s t : Kept) (r : Result B Halt) (u : Kept) → Quiet p s (Ok a) t → Quiet (f a) t r u → Quiet (p >>= f) s r u
 unfolding ◌>>=◌
 quiet_then {A} {B} p f a s t (Ok b) u h k = λ input. bound_is (p (seen s input)) f a (seen t input) [] (h input) ∙ ap (λ (o : Outcome B). record { ending = o.ending; events = [] ++ o.events }) (k input)
+quiet_then p f a s t (Err (halt.Way w)) u h k = k
 quiet_then {A} {B} p f a s t (Err (halt.Over l)) u h k = λ input. bound_is (p (seen s input)) f a (seen t input) [] (h input) ∙ ap (λ (o : Outcome B). record { ending = o.ending; events = [] ++ o.events }) (k input)
 quiet_then p f a s t (Err halt.OutputFault) u h k = k
 quiet_then p f a s t (Err halt.NoMemory) u h k = k
 
 pub quiet_exit : {A B : Type 0} (p : Run A) (f : A → Run B) (s : Kept) (h : Halt) (t : Kept) → Quiet p s (Err h) t → Quiet (p >>= f) s (Err h) t
 unfolding ◌>>=◌
+quiet_exit p f s (halt.Way w) t k = k
 quiet_exit {A} p f s (halt.Over l) t k = λ input. ap (λ (o : Outcome A). bound o f) (k input)
 quiet_exit p f s halt.OutputFault t k = k
 quiet_exit p f s halt.NoMemory t k = k
@@ -180,27 +199,45 @@ quiet_exit_by {A} {B} p f s t k q i h = subst (λ (x : Result B Halt). Quiet (p 
 
 -- ---- the same evaluation in other words
 
--- the two do the same
-pub record Same {A : Type 0} (p q : Run A) : Type 0 where
-  pub same : (s : State) → p s ≡ q s
+pub same_right : {A : Type 0} (p q : Run A) (s : Kept) → p ≡ q → Right p s → Right q s
+same_right p q s e h = subst (λ r. Right r s) e h
 
-pub same_right : {A : Type 0} (p q : Run A) (s : Kept) → Same p q → Right p s → Right q s
-same_right {A} p q s e h = record { right = λ input. subst (λ (o : Outcome A). NotWrong o.ending) (e.same (seen s input)) (h.right input) }
+pub same_runs : {A : Type 0} (p q : Run A) (s : Scene) (r : Result A Halt) (t : Scene) → p ≡ q → Runs q s r t → Runs p s r t
+same_runs p q s r t e h = subst (λ x. Runs x s r t) (sym e) h
 
-pub same_quiet : {A : Type 0} (p q : Run A) (s : Kept) (r : Result A Halt) (t : Kept) → Same p q → Quiet q s r t → Quiet p s r t
-same_quiet p q s (Ok a) t e k = λ input. e.same (seen s input) ∙ k input
-same_quiet p q s (Err (halt.Over l)) t e k = λ input. e.same (seen s input) ∙ k input
-same_quiet p q s (Err halt.OutputFault) t e k = k
-same_quiet p q s (Err halt.NoMemory) t e k = k
+-- a value alone
+pub pure_runs : {A : Type 0} (a : A) (s : Scene) → Runs (pure a) s (Ok a) s
+unfolding pure
+pure_runs a s = record { events = []; puts = none_put s.out; is = λ input. refl }
 
-same_ends : {A : Type 0} (p q : Run A) (s : Scene) (g : List ℕ → Ending A) (t : Scene) → Same p q → Ends q s g t → Ends p s g t
-same_ends p q s g t e k = record { events = k.events; puts = k.puts; is = λ input. e.same (seen s.state input) ∙ k.is input }
+-- want of memory, where nothing was put
+pub memory_runs : {A : Type 0} (p : Run A) (s : Kept) (t : Kept) (out : OutputState) → Runs p (scene s out) (Err halt.NoMemory) (scene t out)
+memory_runs p s t out = record { front = λ input. short_of out _ }
 
-pub same_runs : {A : Type 0} (p q : Run A) (s : Scene) (r : Result A Halt) (t : Scene) → Same p q → Runs q s r t → Runs p s r t
-same_runs p q s (Ok a) t e k = same_ends p q s _ t e k
-same_runs p q s (Err (halt.Over l)) t e k = same_ends p q s _ t e k
-same_runs {A} p q s (Err halt.OutputFault) t e k = record { front = λ input. subst (λ (o : Outcome A). PutsFront s.out t.out (text_of o.events)) (sym (e.same (seen s.state input))) (k.front input) }
-same_runs {A} p q s (Err halt.NoMemory) t e k = record { front = λ input. subst (λ (o : Outcome A). PutsSome s.out t.out (text_of o.events)) (sym (e.same (seen s.state input))) (k.front input) }
+-- the first of three parts, then the rest
+pub bind_assoc : {A B C : Type 0} (p : Run A) (f : A → Run B) (g : B → Run C) → ((p >>= f) >>= g) ≡ (p >>= (λ a. f a >>= g))
+unfolding ◌>>=◌
+bind_assoc {A} {B} {C} p f g = fun_ext (λ s. at s (p s).ending (p s).events) where
+  at : (s : State) (e : Ending A) (es : List Event) → bound (bound (record { ending = e; events = es }) f) g ≡ bound (record { ending = e; events = es }) (λ a. f a >>= g)
+  at s (Gave a t) es = ap (λ fs. record { ending = ending_after (f a t).ending g; events = fs }) (append_assoc es (f a t).events (events_after (f a t).ending g))
+  at s (Left w t) es = ap (λ fs. record { ending = Left w t; events = fs }) (append-nil (es ++ []))
+  at s (Over k) es = ap (λ fs. record { ending = Over k; events = fs }) (append-nil (es ++ []))
+  at s Wrong es = ap (λ fs. record { ending = Wrong; events = fs }) (append-nil (es ++ []))
+
+-- a value, then the rest
+pub pure_bind : {A B : Type 0} (a : A) (f : A → Run B) → (pure a >>= f) ≡ f a
+unfolding ◌>>=◌ pure
+pure_bind a f = refl
+
+-- a value that is given on
+pub bind_pure : {A : Type 0} (p : Run A) → (p >>= pure) ≡ p
+unfolding ◌>>=◌ pure
+bind_pure {A} p = fun_ext (λ s. at (p s).ending (p s).events) where
+  at : (e : Ending A) (es : List Event) → bound (record { ending = e; events = es }) pure ≡ record { ending = e; events = es }
+  at (Gave a t) es = ap (λ fs. record { ending = Gave a t; events = fs }) (append-nil es)
+  at (Left w t) es = ap (λ fs. record { ending = Left w t; events = fs }) (append-nil es)
+  at (Over k) es = ap (λ fs. record { ending = Over k; events = fs }) (append-nil es)
+  at Wrong es = ap (λ fs. record { ending = Wrong; events = fs }) (append-nil es)
 
 -- ---- printing
 
@@ -212,9 +249,35 @@ prints_runs s old new text (Ok v) h = record {
   is = λ input. ap (λ u. record { ending = Gave u (seen s input); events = Printed text ∷ [] }) (sym h.0);
 }
 prints_runs s old new text (Err halt.OutputFault) h = record { front = λ input. front_more old new text [] h.1 }
+prints_runs s old new text (Err (halt.Way w)) h = absurd (not_way w h.0) where
+  not_way : (w : Way) → halt.Way w ≡ halt.OutputFault → ⊥
+  not_way w e = cc
 prints_runs s old new text (Err (halt.Over l)) h = absurd (not_over l h.0) where
   not_over : (l : Limit) → halt.Over l ≡ halt.OutputFault → ⊥
   not_over l e = cc
 prints_runs s old new text (Err halt.NoMemory) h = absurd (not_memory h.0) where
   not_memory : halt.NoMemory ≡ halt.OutputFault → ⊥
   not_memory e = cc
+
+-- want of memory behind a `?`
+pub memory_by : {A : Type 0} (p : Run A) (s t : Kept) (out : OutputState) (q : Result A Halt) → IsErrAnd q (λ y. y ≡ halt.NoMemory) → Runs p (scene s out) q (scene t out)
+memory_by {A} p s t out q i = subst (λ (x : Result A Halt). Runs p (scene s out) x (scene t out)) (sym (err_is q halt.NoMemory i)) (memory_runs p s t out)
+
+-- ---- a loop
+
+-- Whatever the rest does completes the whole.
+pub record Rest {A : Type 0} (whole rest : Run A) (start now : Scene) : Type 0 where
+  pub right : Right rest now.state
+  pub on : (r : Result A Halt) (t : Scene) → Runs rest now r t → Runs whole start r t
+
+pub rest_begins : {A : Type 0} (whole : Run A) (s : Scene) → Right whole s.state → Rest whole whole s s
+rest_begins whole s h = record { right = h; on = λ r t k. k }
+
+pub rest_same : {A : Type 0} (whole p q : Run A) (start now : Scene) → p ≡ q → Rest whole p start now → Rest whole q start now
+rest_same whole p q start now e h = subst (λ r. Rest whole r start now) e h
+
+pub rest_next : {A B : Type 0} (whole : Run B) (p : Run A) (f : A → Run B) (a : A) (start now next : Scene) → Rest whole (p >>= f) start now → Runs p now (Ok a) next → Rest whole (f a) start next
+rest_next whole p f a start now next h k = record {
+  right = next_right p f a now next h.right k;
+  on = λ r t done. h.on r t (then_runs p f a now next r t k done);
+}

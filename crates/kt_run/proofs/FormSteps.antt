@@ -20,20 +20,19 @@ use Rattle.kt_model.specs.BodyTrees.{Operation, Sum', Arithmetic', Mark, Tree, T
 use Rattle.kt_outside.specs.Outside.{OutputState}
 use Rattle.kt_outside.specs.Texts.{PutsFront}
 use Rattle.kt_mean.specs.Events.{text_of}
-use Rattle.kt_run.specs.Scene.{PutsSome}
 use Rattle.kt_mean.specs.declared.states.Value.{Value}
 use Rattle.kt_mean.specs.declared.states.Value.TheVariants as value
 use Rattle.kt_mean.specs.declared.states.Way.TheVariants as way
 use Rattle.kt_mean.specs.declared.states.Limit.TheVariants as limit
 use Rattle.kt_mean.specs.Frames.{Locals, Frame, State, Ending, Gave, Left, Over, Wrong, Outcome, Run, NotWrong, ◌>>=◌, over, wrong, turned}
 use Rattle.kt_mean.specs.Evaluation.{Program, Function, choose, fits, is_unit, with_values, block, block_from, arguments_fit, most_calls, begun, given, ended, call_end, invoke, limited, called, checked, read, write, operated, compound_tree, tree_at}
-use Rattle.kt_run.specs.declared.file_state.State.{State as Kept}
-use Rattle.kt_run.specs.declared.file_state.Halt.{Halt}
-use Rattle.kt_run.specs.declared.file_state.Halt.TheVariants as halt
-use Rattle.kt_run.specs.FileScene.{Scene, scene, seen, Right, Runs}
-use Rattle.kt_run.specs.FileRun.{collected, name_run, call_run, local_run, assign_run, compound_run, answered}
-use Rattle.kt_run.proofs.FileChain.{pure_bind, bind_assoc, quiet_runs}
-use Rattle.kt_run.proofs.FileSteps.{wrong_comes}
+use Rattle.kt_run.specs.declared.state.State.{State as Kept}
+use Rattle.kt_run.specs.declared.state.Halt.{Halt}
+use Rattle.kt_run.specs.declared.state.Halt.TheVariants as halt
+use Rattle.kt_run.specs.Scene.{Scene, scene, seen, Right, PutsSome, Runs}
+use Rattle.kt_run.specs.Running.{collected, name_run, call_run, local_run, assign_run, compound_run, answered}
+use Rattle.kt_run.proofs.Chain.{pure_bind, bind_assoc, quiet_runs}
+use Rattle.kt_run.proofs.Steps.{wrong_comes}
 
 -- ---- lists
 

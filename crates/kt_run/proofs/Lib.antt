@@ -1,11 +1,6 @@
-pub mod SlotLemmas
-pub mod Chain
-pub mod TreeSteps
-pub mod Blocks
-pub mod Wholes
 pub mod FrameLemmas
-pub mod FileChain
-pub mod FileSteps
+pub mod Chain
+pub mod Steps
 pub mod FormSteps
 pub mod BareRuns
-pub mod FileWholes
+pub mod Wholes

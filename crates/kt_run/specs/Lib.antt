@@ -1,7 +1,5 @@
-pub mod Scene
-pub mod Running
 pub mod Slots
-pub mod FileScene
+pub mod Scene
 pub mod Operators
-pub mod FileRun
+pub mod Running
 pub mod Nests

@@ -5,10 +5,10 @@ use Rattle.kt_outside.specs.Outside.{OutputState}
 use Rattle.kt_mean.specs.declared.states.Value.{Value}
 use Rattle.kt_run.specs.declared.evaluator.ResolvedFile.{ResolvedFile}
 use Rattle.kt_run.specs.declared.evaluator.Node.{Node}
-use Rattle.kt_run.specs.declared.file_state.State.{State}
-use Rattle.kt_run.specs.declared.file_state.Halt.{Halt}
-use Rattle.kt_run.specs.FileScene.{scene, Right, Runs}
-use Rattle.kt_run.specs.FileRun.{part, tree_seen}
+use Rattle.kt_run.specs.declared.state.State.{State}
+use Rattle.kt_run.specs.declared.state.Halt.{Halt}
+use Rattle.kt_run.specs.Scene.{scene, Right, Runs}
+use Rattle.kt_run.specs.Running.{part, tree_seen}
 
 -- It may be called where no wrong use comes, and then does what the meaning does to that depth.
 pub record Nests {O : Type 0} (depth : ℕ) (resolved : ResolvedFile) (output_state : O → OutputState)

@@ -1,21 +1,22 @@
--- What the interpreter owes to the written meaning, for every input: a private word of this crate.
+-- What the evaluator of a file's trees owes to the written meaning, for every input: a private word of this crate.
 use Rattle.std.specs.Prelude.{◌≡◌, ℕ, List, [], Result, Ok, Err}
 use Rattle.std.specs.Io.KnownBytes.{Appends}
 use Rattle.kt_outside.specs.Outside.{OutputState}
 use Rattle.kt_outside.specs.Texts.{IsPrefix, PutsWhole, PutsFront}
-use Rattle.kt_mean.specs.declared.value.Value.{Value}
-use Rattle.kt_mean.specs.declared.value.Value.TheVariants as value
+use Rattle.kt_mean.specs.declared.states.Value.{Value}
+use Rattle.kt_mean.specs.declared.states.Value.TheVariants as value
 use Rattle.kt_mean.specs.Events.{Event, text_of}
-use Rattle.kt_mean.specs.Outcome.{State, Ending, Gave, Over, Run, NotWrong}
+use Rattle.kt_mean.specs.Frames.{State, Ending, Gave, Left, Over, Run, NotWrong}
+use Rattle.kt_run.specs.Slots.{held}
 use Rattle.kt_run.specs.declared.state.State.{State as Kept}
 use Rattle.kt_run.specs.declared.state.Halt.{Halt}
 use Rattle.kt_run.specs.declared.state.Halt.TheVariants as halt
 
--- the interpreter's state as the meaning's, with this input left
+-- the evaluator's state as the meaning's, with this input left
 abbrev pub seen : Kept → List ℕ → State
-seen s input = record { here = record { locals = s.locals }; steps = s.steps; input = input }
+seen s input = record { here = record { locals = held s.frame }; calls = s.calls; steps = s.steps; input = input }
 
--- the interpreter's state and the output
+-- the evaluator's state and the output
 pub record Scene : Type 0 where
   pub state : Kept
   pub out : OutputState
@@ -50,6 +51,7 @@ pub record RunsShort {A : Type 0} (p : Run A) (s t : Scene) : Type 0 where
 
 abbrev pub Runs : {A : Type 0} → Run A → Scene → Result A Halt → Scene → Type 0
 Runs p s (Ok a) t = Ends p s (λ input. Gave a (seen t.state input)) t
+Runs p s (Err (halt.Way w)) t = Ends p s (λ input. Left w (seen t.state input)) t
 Runs p s (Err (halt.Over k)) t = Ends p s (λ input. Over k) t
 Runs p s (Err halt.OutputFault) t = FailsToPut p s t
 Runs p s (Err halt.NoMemory) t = RunsShort p s t
@@ -57,6 +59,7 @@ Runs p s (Err halt.NoMemory) t = RunsShort p s t
 -- what touches the state alone
 abbrev pub Quiet : {A : Type 0} → Run A → Kept → Result A Halt → Kept → Type 0
 Quiet p old (Ok a) new = (input : List ℕ) → p (seen old input) ≡ record { ending = Gave a (seen new input); events = [] }
+Quiet p old (Err (halt.Way w)) new = ⊥
 Quiet p old (Err (halt.Over k)) new = (input : List ℕ) → p (seen old input) ≡ record { ending = Over k; events = [] }
 Quiet p old (Err halt.OutputFault) new = ⊥
 Quiet p old (Err halt.NoMemory) new = Unit {0}

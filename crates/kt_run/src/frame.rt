@@ -4,7 +4,7 @@ ghost use Rattle.kt_mean.specs.Frames.{no_locals, with_local};
 ghost use Rattle.kt_mean.specs.Evaluation.{new_locals};
 ghost use Rattle.kt_run.specs.Slots.{held};
 
-use kt_mean::states::Value;
+use kt_mean::Value;
 use sqlite_items::Items;
 use std::alloc::{AllocError, Global};
 use std::marker::Model;

@@ -2,12 +2,12 @@
 ghost use Rattle.std.specs.Prelude.{◌≡◌, ◌++◌, ◌∷◌, [], Some, IsSome, IfSome};
 ghost use Rattle.kt_mean.specs.Evaluation.{text_of_value};
 ghost use Rattle.kt_outside.specs.Texts.{PutsAll};
-ghost use Rattle.kt_run.specs.FileScene.{Prints};
+ghost use Rattle.kt_run.specs.Scene.{Prints};
 ghost use Rattle.kt_run.specs.Operators.{combined, with_sign, printed};
 
-use crate::file_state::Halt;
+use crate::state::Halt;
 use itoa::Buffer;
-use kt_mean::states::Value;
+use kt_mean::Value;
 use kt_outside::{Output, PutFault, put_all};
 use kt_tree::ast::{Arithmetic, Comparison, Equality, Sign};
 

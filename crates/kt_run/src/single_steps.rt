@@ -3,13 +3,13 @@ ghost use Rattle.std.specs.Prelude.{◌≡◌, MatchResult, pos};
 ghost use Rattle.kt_mean.specs.Evaluation as spec;
 ghost use Rattle.kt_mean.specs.Programs.{is_expression};
 ghost use Rattle.kt_mean.specs.declared.states.Value.TheVariants as value;
-ghost use Rattle.kt_run.specs.declared.file_state.Halt.TheVariants as halt;
-ghost use Rattle.kt_run.specs.FileScene.{Right, Quiet};
-ghost use Rattle.kt_run.specs.FileRun.{names, name_run, answered};
+ghost use Rattle.kt_run.specs.declared.state.Halt.TheVariants as halt;
+ghost use Rattle.kt_run.specs.Scene.{Right, Quiet};
+ghost use Rattle.kt_run.specs.Running.{names, name_run, answered};
 
 use crate::evaluator::ResolvedFile;
-use crate::file_state::{Halt, State};
-use kt_mean::states::{Limit, Value, Way};
+use crate::state::{Halt, State};
+use kt_mean::{Limit, Value, Way};
 use kt_model::uses::Named;
 use kt_tree::ast::FunctionBody;
 

@@ -1,18 +1,20 @@
-//! The state of a run, and why an evaluation gives no value.
-use crate::locals::Locals;
-use kt_mean::Limit;
+//! The state of a run of a file, and why an evaluation gives no value.
+use crate::frame::Frame;
+use kt_mean::{Limit, Way};
 use std::alloc::AllocError;
 
-/// The locals of the frame under way, and the steps left.
+/// The locals of the call under way, how many calls are under way, and the steps left.
 #[derive(Drop)]
 pub(crate) struct State {
-    pub(crate) locals: Locals,
+    pub(crate) frame: Frame,
+    pub(crate) calls: u32,
     pub(crate) steps: u64,
 }
 
 /// Why an evaluation gives no value: by the meaning, or for a reason outside it.
 #[derive(Clone, Copy, Debug, PartialEq, Eq)]
 pub(crate) enum Halt {
+    Way(Way),
     Over(Limit),
     OutputFault,
     NoMemory,

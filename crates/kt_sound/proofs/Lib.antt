@@ -1,9 +1,3 @@
-pub mod Acceptance
-pub mod Standing
-pub mod Agreement
-pub mod FlowSteps
-pub mod Laws
-pub mod Joined
 pub mod TypingSteps
 pub mod NoFinding
 pub mod ValueTypes

@@ -11,7 +11,7 @@ use Rattle.kt_model.proofs.UseLemmas.{Rising, rising, rising_rest}
 use Rattle.kt_mean.specs.Evaluation.{Program}
 use Rattle.kt_mean.specs.Programs.{program_of}
 use Rattle.kt_mean.specs.FileRuns.{IsDeadTree, IsProgram}
-use Rattle.kt_mean.proofs.RunOnce.{same_test}
+use Rattle.kt_mean.proofs.OneProgram.{same_test}
 use Rattle.kt_sound.specs.FileSoundness.{OneProgram}
 use Rattle.kt_sound.proofs.TypingSteps.{some-some}
 
@@ -53,7 +53,8 @@ same_resolved u w d r q =
     ∙ ap (λ (x : List UseRow). record { declared = w.declared; rows = x; parameters = u.parameters }) r
     ∙ ap (λ (x : List (List ℕ)). record { declared = w.declared; rows = w.rows; parameters = x }) q
 
-one_resolved : (file : File) (u w : Resolved) → IsResolved file u → IsResolved file w → u ≡ w
+-- what the names of a file stand for is one value
+pub one_resolved : (file : File) (u w : Resolved) → IsResolved file u → IsResolved file w → u ≡ w
 one_resolved file u w h k =
     same_resolved u w (h.same_declared ∙ sym k.same_declared)
     (same_rows u.rows w.rows (rising u.rows h.rising) (rising w.rows k.rising)

@@ -1,4 +1,3 @@
-pub mod Soundness
 pub mod FlowOfBody
 pub mod BodySoundness
 pub mod FileSoundness

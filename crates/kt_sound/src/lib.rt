@@ -1,19 +1,12 @@
-//! Soundness: what the written rules accept is never wrong. Below are the written rules and the written meaning; the interpreters above rest on
+//! Soundness: what the written rules accept is never wrong. Below are the written rules and the written meaning; the interpreter above rests on
 //! these laws, which are statements about definitions and take no memory.
 #![tactic(auto)]
 
 ghost use Rattle.kt_sound.specs.BodySoundness.{BodiesNeverWrong};
-ghost use Rattle.kt_sound.specs.Soundness.{NeverWrong};
 
 mod files;
 
 pub use files::{files_have_programs, files_never_wrong, one_program_of_a_file};
-
-/// For every accepted source, every input and every number of steps the written meaning does not end by a wrong use: no local that holds nothing
-/// is read, no `val` that holds a value is assigned, no dead tree is entered.
-pub fn never_wrong()
-    ensures { NeverWrong }
-{}
 
 /// For every program whose bodies violate no typing rule and no rule along paths, every input and every number of steps the run does not end by a wrong
 /// use: no local that holds nothing is read, no `val` or parameter that holds a value is assigned, no dead tree is entered, each operand is of the

@@ -10,4 +10,3 @@ pub mod FromInvocation
 pub mod Fronts
 pub mod Completeness
 pub mod Headlines
-pub mod SomeCourse

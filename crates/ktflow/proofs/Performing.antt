@@ -13,7 +13,7 @@ use Rattle.ktflow.specs.Streams.{IsKnown, TakesBytes}
 use Rattle.ktflow.specs.Executing.{Executes, RunsOutOfMemory}
 use Rattle.ktflow.specs.Fetching.{FetchesAll, FailsToFetch}
 use Rattle.ktflow.specs.Invoking.{IsSource, Performs, outside}
-use Rattle.kt_mean.specs.declared.value.RunEnding.{RunEnding}
+use Rattle.kt_mean.specs.declared.states.RunEnding.{RunEnding}
 use Rattle.ktflow.specs.declared.ending.Ending.TheVariants.{Usage, Refused, Ran as RanRun}
 use Rattle.ktflow.specs.declared.ending.Stop.{Stop}
 use Rattle.ktflow.specs.declared.ending.Stop.TheVariants.{Ended, SourceFault, InputFault, OutputFault, NoMemory}

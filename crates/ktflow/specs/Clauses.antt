@@ -9,7 +9,7 @@ use Rattle.ktflow.specs.Course.{Course, Ending, Usage, Refused, Ran, askings, li
 use Rattle.ktflow.specs.Language.{IsRefused}
 use Rattle.ktflow.specs.Program.{HasCourse, request_of, file_of, counted}
 use Rattle.ktflow.specs.Invoking.{Outside, HasShape}
-use Rattle.kt_mean.specs.declared.value.RunEnding.TheVariants.{Done, Steps}
+use Rattle.kt_mean.specs.declared.states.RunEnding.TheVariants.{Done, Steps, Calls}
 
 -- ---- the premises
 
@@ -63,6 +63,7 @@ is_done Usage = false
 is_done (Refused report) = false
 is_done (Ran Done) = true
 is_done (Ran Steps) = false
+is_done (Ran Calls) = false
 
 -- a limit of the written meaning was met
 abbrev pub is_limit : Ending → Bool
@@ -70,6 +71,7 @@ is_limit Usage = false
 is_limit (Refused report) = false
 is_limit (Ran Done) = false
 is_limit (Ran Steps) = true
+is_limit (Ran Calls) = true
 
 -- Where the bytes are told, the status is this number only where the call has a course that ends so; and where it has one, the status is
 -- this number, unless there was a fault or want of memory.

@@ -1,8 +1,8 @@
 -- A course: what a call asks and prints, in order, and how it ends. This project's own; it knows no language, no pieces and no faults.
 use Rattle.std.specs.Prelude.{◌≡◌, ℕ, suc, List, [], ◌∷◌, ◌++◌, codes, count_by, nat_eq}
 use Rattle.kt_mean.specs.Events.{Event, Asked, Printed, text_of, RunCourse}
-use Rattle.kt_mean.specs.declared.value.RunEnding.{RunEnding}
-use Rattle.kt_mean.specs.declared.value.RunEnding.TheVariants.{Done, Steps}
+use Rattle.kt_mean.specs.declared.states.RunEnding.{RunEnding}
+use Rattle.kt_mean.specs.declared.states.RunEnding.TheVariants.{Done, Steps, Calls}
 
 -- How a call ends: by words without a shape, by a refusal with its report, or as its run ends.
 pub data Ending : Type 0 where
@@ -33,6 +33,7 @@ askings (Printed text ∷ events) = askings events
 abbrev pub line_of_run : RunEnding → List ℕ
 line_of_run Done = []
 line_of_run Steps = codes "limit steps\n"
+line_of_run Calls = codes "limit calls\n"
 
 -- the text on `err`: the usage line, the report, or the line of the run
 abbrev pub line_of : Ending → List ℕ
@@ -44,6 +45,7 @@ line_of (Ran ending) = line_of_run ending
 abbrev pub status_of_run : RunEnding → ℕ
 status_of_run Done = 0
 status_of_run Steps = 9
+status_of_run Calls = 9
 
 abbrev pub status_of : Ending → ℕ
 status_of Usage = 2

@@ -7,10 +7,10 @@ use Rattle.kt_outside.specs.Texts.{IsPrefix}
 use Rattle.kt_mean.specs.Events.{RunCourse, text_of}
 use Rattle.ktflow.specs.Course as course
 use Rattle.ktflow.specs.Language.{IsRefused, IsRun}
-use Rattle.kt_mean.specs.declared.value.RunEnding.{RunEnding}
-use Rattle.kt_mean.specs.declared.value.RunEnding.TheVariants as ending
-use Rattle.kt_run.specs.declared.interpreter.End.{End}
-use Rattle.kt_run.specs.declared.interpreter.End.TheVariants as end
+use Rattle.kt_mean.specs.declared.states.RunEnding.{RunEnding}
+use Rattle.kt_mean.specs.declared.states.RunEnding.TheVariants as ending
+use Rattle.kt_run.specs.declared.run.End.{End}
+use Rattle.kt_run.specs.declared.run.End.TheVariants as end
 use Rattle.ktflow.specs.declared.ending.Ending.{Ending}
 use Rattle.ktflow.specs.declared.ending.Ending.TheVariants.{Usage, Refused, Ran}
 use Rattle.ktflow.specs.declared.ending.Stop.{Stop}
@@ -68,5 +68,6 @@ Executes source steps input old new NoMemory = RunsOutOfMemory source steps inpu
 abbrev pub stop_told : End → Stop
 stop_told end.Done = Ended (Ran ending.Done)
 stop_told end.Steps = Ended (Ran ending.Steps)
+stop_told end.Calls = Ended (Ran ending.Calls)
 stop_told end.WriteFault = OutputFault
 stop_told end.NoMemory = NoMemory

@@ -57,7 +57,3 @@ pub data HasCourse (words : List (List ℕ)) (source input : List ℕ) (course :
 -- A call has at most one course.
 abbrev pub OneCourse : Type 0
 OneCourse = (words : List (List ℕ)) (source input : List ℕ) (course other : Course) → HasCourse words source input course → HasCourse words source input other → course ≡ other
-
--- Every call has a course.
-abbrev pub SomeCourse : Type 0
-SomeCourse = (words : List (List ℕ)) (source input : List ℕ) → (course : Course) × HasCourse words source input course

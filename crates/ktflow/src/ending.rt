@@ -38,6 +38,7 @@ fn line_of_ending(ending: RunEnding) -> &'static [u8]
     match ending {
         RunEnding::Done => b"",
         RunEnding::Steps => b"limit steps\n",
+        RunEnding::Calls => b"limit calls\n",
     }
 }
 
@@ -46,7 +47,7 @@ fn status_of_ending(ending: RunEnding) -> u8
 {
     match ending {
         RunEnding::Done => 0,
-        RunEnding::Steps => 9,
+        RunEnding::Steps | RunEnding::Calls => 9,
     }
 }
 

@@ -7,8 +7,8 @@ use kt_check::{Verdict, check};
 use kt_mean::RunEnding;
 use kt_outside::Output;
 use kt_report::report;
-use kt_run::{End, run};
-use kt_sound::never_wrong;
+use kt_run::{End, run_file};
+use kt_sound::{files_have_programs, files_never_wrong};
 use std::alloc::Global;
 
 /// Checks the source and, where the written rules refuse nothing, runs it with so many steps, and puts its text on `out`.
@@ -19,9 +19,18 @@ pub(crate) fn execute<O: Output>(alloc: Global, source: &[u8], steps: u64, out: 
     ensures { (input : List ℕ) → Executes source.now steps input (O.state out.old) (O.state out.new) result }
 {
     match check(alloc, source) {
-        Ok(Verdict::Accepted(statements)) => {
-            never_wrong();
-            stop_of(run(alloc, &statements, steps, out))
+        Ok(Verdict::Accepted(accepted)) => {
+            files_have_programs();
+            files_never_wrong();
+            let end = run_file(
+                alloc,
+                &accepted.file,
+                &accepted.uses,
+                accepted.main,
+                steps,
+                out,
+            );
+            stop_of(end)
         }
         Ok(Verdict::Refused(finding)) => match report(alloc, source, &finding) {
             Ok(text) => Stop::Ended(Ending::Refused(text)),
@@ -37,6 +46,7 @@ fn stop_of(end: End) -> Stop
     match end {
         End::Done => Stop::Ended(Ending::Ran(RunEnding::Done)),
         End::Steps => Stop::Ended(Ending::Ran(RunEnding::Steps)),
+        End::Calls => Stop::Ended(Ending::Ran(RunEnding::Calls)),
         End::WriteFault => Stop::OutputFault,
         End::NoMemory => Stop::NoMemory,
     }

@@ -13,4 +13,4 @@ mod request;
 mod source;
 
 pub use ending::{Ending, Stop};
-pub use program::{ktflow, one_course, some_course};
+pub use program::{ktflow, one_course};

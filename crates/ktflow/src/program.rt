@@ -1,7 +1,7 @@
 // The program.
 ghost use Rattle.std.specs.Prelude.{map, string_bytes};
 ghost use Rattle.kt_outside.specs.Outside.{OutputState};
-ghost use Rattle.ktflow.specs.Program.{OneCourse, SomeCourse};
+ghost use Rattle.ktflow.specs.Program.{OneCourse};
 ghost use Rattle.ktflow.specs.Invoking.{Invocation, Performs, Reports, outside};
 ghost use Rattle.ktflow.specs.Headline.{IsHeadline};
 ghost use Rattle.ktflow.specs.Clauses.{IsProgram, HasStatuses, HasOrder, HasFronts, IsComplete};
@@ -80,11 +80,6 @@ pub fn ktflow<L: Library, I: Input, O: Output, E: Output>(
 /// A call has at most one course, so what the clauses say of a course and of every course agree.
 pub fn one_course()
     ensures { OneCourse }
-{}
-
-/// Every call has a course, whatever its words, the bytes of FILE and those of the input.
-pub fn some_course()
-    ensures { SomeCourse }
 {}
 
 // All but the text on `err`, whose state is any. Nothing in the language takes bytes of the input yet.

@@ -1,5 +1,5 @@
-use Rattle.kt_check.proofs.Phases as phases
+use Rattle.kt_check.proofs.OneVerdict as verdict
 use Rattle.kt_check.proofs.laws.never_both.Goals as goal
 
 pub returns : goal.returns
-returns c = phases.never_both
+returns c = λ source f file uses h k. verdict.never_both source f file uses h k

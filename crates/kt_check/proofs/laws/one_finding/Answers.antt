@@ -1,5 +1,5 @@
-use Rattle.kt_check.proofs.Phases as phases
+use Rattle.kt_check.proofs.OneVerdict as verdict
 use Rattle.kt_check.proofs.laws.one_finding.Goals as goal
 
 pub returns : goal.returns
-returns c = phases.one_finding
+returns c = λ source f g h k. verdict.one_first source f g h k

@@ -1,5 +1,5 @@
 use Rattle.std.proofs.Common.{sym, ◌∙◌}
-use Rattle.kt_run.proofs.FileSteps.{no_value}
+use Rattle.kt_run.proofs.Steps.{no_value}
 use Rattle.kt_run.proofs.single_steps.read.Goals as goal
 
 pub unreachable-requires : goal.unreachable-requires

@@ -1,8 +1,8 @@
 use Rattle.std.proofs.Common.{sym, subst}
 use Rattle.kt_model.specs.declared.uses.Named.{Named}
-use Rattle.kt_run.specs.FileScene.{Right}
-use Rattle.kt_run.specs.FileRun.{name_run}
-use Rattle.kt_run.proofs.FileSteps.{no_local}
+use Rattle.kt_run.specs.Scene.{Right}
+use Rattle.kt_run.specs.Running.{name_run}
+use Rattle.kt_run.proofs.Steps.{no_local}
 use Rattle.kt_run.proofs.single_steps.read_name.Goals as goal
 
 pub unreachable-requires : goal.unreachable-requires

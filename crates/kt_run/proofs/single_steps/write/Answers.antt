@@ -1,4 +1,4 @@
-use Rattle.kt_run.proofs.FileSteps.{write_quiet}
+use Rattle.kt_run.proofs.Steps.{write_quiet}
 use Rattle.kt_run.proofs.single_steps.write.Goals as goal
 
 pub returns : goal.returns

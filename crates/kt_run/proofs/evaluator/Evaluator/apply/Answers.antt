@@ -1,10 +1,10 @@
 use Rattle.std.proofs.Common.{sym, subst, None, Some, option_map, option_copied, slice_get, ◌≡◌, ap, ◌∙◌}
 use Rattle.kt_mean.specs.Evaluation.{called}
 use Rattle.kt_mean.specs.Programs.{function_of}
-use Rattle.kt_run.specs.FileScene.{scene, Right, Runs}
-use Rattle.kt_run.specs.FileRun.{program_seen, part}
-use Rattle.kt_run.proofs.FileChain.{same_right, same_runs}
-use Rattle.kt_run.proofs.FileSteps.{wrong_comes}
+use Rattle.kt_run.specs.Scene.{scene, Right, Runs}
+use Rattle.kt_run.specs.Running.{program_seen, part}
+use Rattle.kt_run.proofs.Chain.{same_right, same_runs}
+use Rattle.kt_run.proofs.Steps.{wrong_comes}
 use Rattle.kt_run.proofs.FormSteps.{called_length, called_same}
 use Rattle.kt_run.proofs.evaluator.Evaluator.apply.Goals as goal
 

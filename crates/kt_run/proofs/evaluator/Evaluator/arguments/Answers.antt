@@ -1,9 +1,9 @@
 use Rattle.std.proofs.Common.{sym, ap, subst, ◌+◌, [], map, drop, length, Ok, arith, ◌≤◌}
 use Rattle.std.proofs.lemmas.List.{drop_all}
 use Rattle.kt_model.specs.BodyTrees.{seen as seen_in, seen_trees}
-use Rattle.kt_run.specs.FileScene.{scene, Runs}
-use Rattle.kt_run.specs.FileRun.{part, names, collected}
-use Rattle.kt_run.proofs.FileChain.{rest_begins, rest_same, rest_next, first_right, exit_by, memory_by, pure_runs}
+use Rattle.kt_run.specs.Scene.{scene, Runs}
+use Rattle.kt_run.specs.Running.{part, names, collected}
+use Rattle.kt_run.proofs.Chain.{rest_begins, rest_same, rest_next, first_right, exit_by, memory_by, pure_runs}
 use Rattle.kt_run.proofs.FormSteps.{arguments_next}
 use Rattle.kt_run.proofs.evaluator.Evaluator.arguments.Goals as goal
 

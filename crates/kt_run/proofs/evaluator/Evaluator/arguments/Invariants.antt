@@ -1,8 +1,8 @@
 use Rattle.std.proofs.Common.{drop, map, []}
 use Rattle.kt_model.specs.BodyTrees.{seen as seen_in, seen_trees}
-use Rattle.kt_run.specs.FileScene.{scene}
-use Rattle.kt_run.specs.FileRun.{part, names, collected}
-use Rattle.kt_run.proofs.FileChain.{Rest}
+use Rattle.kt_run.specs.Scene.{scene}
+use Rattle.kt_run.specs.Running.{part, names, collected}
+use Rattle.kt_run.proofs.Chain.{Rest}
 use Rattle.kt_run.proofs.evaluator.Evaluator.arguments.Given as goal
 
 -- Whatever the values of the arguments from here on are, behind those that are there, they complete the whole.

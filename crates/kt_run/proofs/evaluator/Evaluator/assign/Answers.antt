@@ -1,8 +1,8 @@
 use Rattle.std.proofs.Common.{sym, subst, option_map}
 use Rattle.kt_model.specs.declared.uses.Named.{Named}
 use Rattle.kt_model.specs.BodyTrees.{expr_tree}
-use Rattle.kt_run.specs.FileScene.{Right}
-use Rattle.kt_run.specs.FileRun.{program_seen, part, names, assign_run}
+use Rattle.kt_run.specs.Scene.{Right}
+use Rattle.kt_run.specs.Running.{program_seen, part, names, assign_run}
 use Rattle.kt_run.proofs.FormSteps.{no_assigned}
 use Rattle.kt_run.proofs.evaluator.Evaluator.assign.Goals as goal
 

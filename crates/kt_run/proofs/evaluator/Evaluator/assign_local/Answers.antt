@@ -4,9 +4,9 @@ use Rattle.kt_tree.specs.declared.ast.part.Assignment.{Assignment}
 use Rattle.kt_tree.specs.declared.ast.part.Assignment.TheVariants as assignment
 use Rattle.kt_tree.specs.declared.ast.body.Expr.{Expr}
 use Rattle.kt_model.specs.BodyTrees.{expr_tree}
-use Rattle.kt_run.specs.FileScene.{Right}
-use Rattle.kt_run.specs.FileRun.{program_seen, part, names, assign_run}
-use Rattle.kt_run.proofs.FileSteps.{wrong_comes}
+use Rattle.kt_run.specs.Scene.{Right}
+use Rattle.kt_run.specs.Running.{program_seen, part, names, assign_run}
+use Rattle.kt_run.proofs.Steps.{wrong_comes}
 use Rattle.kt_run.proofs.evaluator.Evaluator.assign_local.Goals as goal
 
 pub unreachable-requires : goal.unreachable-requires

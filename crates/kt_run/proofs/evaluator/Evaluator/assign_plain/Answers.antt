@@ -1,6 +1,6 @@
 use Rattle.kt_mean.specs.declared.states.Value.{Value}
-use Rattle.kt_run.proofs.FileChain.{first_right, next_right, then_runs, exit_by, quiet_runs}
-use Rattle.kt_run.specs.FileScene.{scene}
+use Rattle.kt_run.proofs.Chain.{first_right, next_right, then_runs, exit_by, quiet_runs}
+use Rattle.kt_run.specs.Scene.{scene}
 use Rattle.kt_run.proofs.evaluator.Evaluator.assign_plain.Goals as goal
 
 pub part-requires : goal.part-requires

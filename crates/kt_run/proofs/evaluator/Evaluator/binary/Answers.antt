@@ -1,8 +1,8 @@
 use Rattle.std.proofs.Common.{Ok}
 use Rattle.kt_mean.specs.declared.states.Value.{Value}
-use Rattle.kt_run.proofs.FileChain.{first_right, next_right, then_runs, exit_by, same_right}
-use Rattle.kt_run.specs.FileScene.{scene}
-use Rattle.kt_run.proofs.FileSteps.{gives_some, gives_runs, operated_two}
+use Rattle.kt_run.proofs.Chain.{first_right, next_right, then_runs, exit_by, same_right}
+use Rattle.kt_run.specs.Scene.{scene}
+use Rattle.kt_run.proofs.Steps.{gives_some, gives_runs, operated_two}
 use Rattle.kt_run.proofs.evaluator.Evaluator.binary.Goals as goal
 
 pub boxed-requires : goal.boxed-requires

@@ -5,9 +5,9 @@ use Rattle.kt_model.specs.BodyTrees.{Trees, stmt_tree, expr_tree, listed}
 use Rattle.kt_model.specs.Bodies.{body_trees_of, written_trees}
 use Rattle.kt_model.proofs.BodyFolds.{block_list}
 use Rattle.kt_mean.specs.Evaluation.{block}
-use Rattle.kt_run.specs.FileScene.{scene, Right, Runs}
-use Rattle.kt_run.specs.FileRun.{program_seen, part, names}
-use Rattle.kt_run.proofs.FileChain.{first_right, bind_pure, same_runs, pure_runs}
+use Rattle.kt_run.specs.Scene.{scene, Right, Runs}
+use Rattle.kt_run.specs.Running.{program_seen, part, names}
+use Rattle.kt_run.proofs.Chain.{first_right, bind_pure, same_runs, pure_runs}
 use Rattle.kt_run.proofs.evaluator.Evaluator.body.Goals as goal
 
 pub part-requires-clause-right : goal.part-requires-clause-right

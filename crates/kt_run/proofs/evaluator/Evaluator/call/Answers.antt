@@ -1,8 +1,8 @@
 use Rattle.std.proofs.Common.{sym, subst, map}
 use Rattle.kt_model.specs.declared.uses.Named.{Named}
 use Rattle.kt_model.specs.BodyTrees.{seen as seen_in, seen_trees}
-use Rattle.kt_run.specs.FileScene.{Right}
-use Rattle.kt_run.specs.FileRun.{program_seen, part, names, call_run}
+use Rattle.kt_run.specs.Scene.{Right}
+use Rattle.kt_run.specs.Running.{program_seen, part, names, call_run}
 use Rattle.kt_run.proofs.FormSteps.{no_call}
 use Rattle.kt_run.proofs.evaluator.Evaluator.call.Goals as goal
 

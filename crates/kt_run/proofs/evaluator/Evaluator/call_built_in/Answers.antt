@@ -1,10 +1,10 @@
 use Rattle.std.proofs.Common.{sym, subst, List}
 use Rattle.kt_mean.specs.declared.states.Value.{Value}
 use Rattle.kt_mean.specs.Evaluation as spec
-use Rattle.kt_run.specs.FileScene.{scene, Right, Runs}
-use Rattle.kt_run.specs.FileRun.{program_seen, part}
-use Rattle.kt_run.proofs.FileChain.{first_right, next_right, then_runs, exit_by, same_right, same_runs}
-use Rattle.kt_run.proofs.FileSteps.{printed_some, built_in_runs}
+use Rattle.kt_run.specs.Scene.{scene, Right, Runs}
+use Rattle.kt_run.specs.Running.{program_seen, part}
+use Rattle.kt_run.proofs.Chain.{first_right, next_right, then_runs, exit_by, same_right, same_runs}
+use Rattle.kt_run.proofs.Steps.{printed_some, built_in_runs}
 use Rattle.kt_run.proofs.FormSteps.{values_same}
 use Rattle.kt_run.proofs.evaluator.Evaluator.call_built_in.Goals as goal
 

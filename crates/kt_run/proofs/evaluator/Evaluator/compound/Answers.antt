@@ -1,8 +1,8 @@
 use Rattle.std.proofs.Common.{Ok, Err}
 use Rattle.kt_mean.specs.declared.states.Value.{Value}
-use Rattle.kt_run.proofs.FileChain.{first_right, next_right, quiet_right, then_runs, exit_by, quiet_runs, same_right}
-use Rattle.kt_run.specs.FileScene.{scene}
-use Rattle.kt_run.proofs.FileSteps.{gives_some, gives_runs, operated_two}
+use Rattle.kt_run.proofs.Chain.{first_right, next_right, quiet_right, then_runs, exit_by, quiet_runs, same_right}
+use Rattle.kt_run.specs.Scene.{scene}
+use Rattle.kt_run.proofs.Steps.{gives_some, gives_runs, operated_two}
 use Rattle.kt_run.proofs.evaluator.Evaluator.compound.Goals as goal
 
 pub read-requires : goal.read-requires

@@ -1,9 +1,9 @@
 use Rattle.std.proofs.Common.{Ok, Err, sym, subst}
 use Rattle.kt_run.specs.declared.evaluator.Node.{Node}
 use Rattle.kt_mean.specs.Evaluation.{spend, entered}
-use Rattle.kt_run.specs.FileScene.{scene, Right, Runs}
-use Rattle.kt_run.specs.FileRun.{shape, tree_seen}
-use Rattle.kt_run.proofs.FileChain.{exit_by, quiet_right, quiet_runs, then_runs}
+use Rattle.kt_run.specs.Scene.{scene, Right, Runs}
+use Rattle.kt_run.specs.Running.{shape, tree_seen}
+use Rattle.kt_run.proofs.Chain.{exit_by, quiet_right, quiet_runs, then_runs}
 use Rattle.kt_run.proofs.evaluator.Evaluator.enter.Goals as goal
 
 pub returns-in_err-spend : goal.returns-in_err-spend

@@ -4,10 +4,10 @@ use Rattle.kt_model.specs.BodyTrees.{Tree, seen as seen_in, seen_trees, piece, i
 use Rattle.kt_model.proofs.BodyFolds.{tree_of_kind, kind_int, kind_bool, kind_null, kind_name, kind_template, kind_paren, kind_call, kind_call_with, kind_sign, kind_not, kind_sum, kind_arithmetic, kind_compare, kind_equal, kind_and, kind_or, kind_if_any, kind_throw, kind_other}
 use Rattle.kt_mean.specs.Frames.{wrong}
 use Rattle.kt_mean.specs.Evaluation.{with_values}
-use Rattle.kt_run.specs.FileScene.{scene, Right, Runs}
-use Rattle.kt_run.specs.FileRun.{program_seen, part, names, shape, call_run}
-use Rattle.kt_run.proofs.FileChain.{same_right, same_runs, quiet_runs}
-use Rattle.kt_run.proofs.FileSteps.{wrong_comes, int_runs}
+use Rattle.kt_run.specs.Scene.{scene, Right, Runs}
+use Rattle.kt_run.specs.Running.{program_seen, part, names, shape, call_run}
+use Rattle.kt_run.proofs.Chain.{same_right, same_runs, quiet_runs}
+use Rattle.kt_run.proofs.Steps.{wrong_comes, int_runs}
 use Rattle.kt_run.proofs.FormSteps.{name_is, call_is, return_closed}
 use Rattle.kt_run.proofs.evaluator.Evaluator.expr.Goals as goal
 

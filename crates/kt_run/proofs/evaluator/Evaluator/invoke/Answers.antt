@@ -1,14 +1,14 @@
 use Rattle.std.proofs.Common.{◌≤◌, ◌<◌, ◌+◌, ℕ, List, Result, arith, sym, ap, subst, ◌∙◌}
 use Rattle.kt_mean.specs.declared.states.Value.{Value}
-use Rattle.kt_run.specs.declared.file_state.Halt.{Halt}
+use Rattle.kt_run.specs.declared.state.Halt.{Halt}
 use Rattle.kt_run.specs.declared.frame.Frame.{Frame}
-use Rattle.kt_run.specs.declared.file_state.State.{State as Kept}
+use Rattle.kt_run.specs.declared.state.State.{State as Kept}
 use Rattle.kt_run.specs.Slots.{held}
-use Rattle.kt_run.specs.FileScene.{scene, Runs}
+use Rattle.kt_run.specs.Scene.{scene, Runs}
 use Rattle.kt_mean.specs.Evaluation.{most_calls, new_locals, limited}
 use Rattle.kt_mean.specs.Evaluation as spec
 use Rattle.kt_mean.specs.Programs.{function_of}
-use Rattle.kt_run.specs.FileRun.{program_seen, part}
+use Rattle.kt_run.specs.Running.{program_seen, part}
 use Rattle.kt_run.proofs.FormSteps.{too_many, begun_with, body_right, invoke_runs}
 use Rattle.kt_run.proofs.evaluator.Evaluator.invoke.Goals as goal
 

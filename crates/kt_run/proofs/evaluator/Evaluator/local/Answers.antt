@@ -3,9 +3,9 @@ use Rattle.kt_model.specs.declared.uses.Named.{Named}
 use Rattle.kt_model.specs.declared.uses.Named.TheVariants as named
 use Rattle.kt_tree.specs.declared.ast.body.Expr.{Expr}
 use Rattle.kt_model.specs.BodyTrees.{expr_tree}
-use Rattle.kt_run.specs.FileScene.{scene, Right, Runs}
-use Rattle.kt_run.specs.FileRun.{program_seen, part, names, local_run}
-use Rattle.kt_run.proofs.FileChain.{quiet_runs}
+use Rattle.kt_run.specs.Scene.{scene, Right, Runs}
+use Rattle.kt_run.specs.Running.{program_seen, part, names, local_run}
+use Rattle.kt_run.proofs.Chain.{quiet_runs}
 use Rattle.kt_run.proofs.FormSteps.{no_local_here}
 use Rattle.kt_run.proofs.evaluator.Evaluator.local.Goals as goal
 

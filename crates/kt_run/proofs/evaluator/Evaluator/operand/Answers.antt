@@ -2,9 +2,9 @@ use Rattle.std.proofs.Common.{Ok, Option, option_map, pos, sym, subst}
 use Rattle.kt_mean.specs.declared.states.Value.TheVariants as value
 use Rattle.kt_tree.specs.declared.ast.body.Expr.{Expr}
 use Rattle.kt_model.specs.BodyTrees.{expr_tree}
-use Rattle.kt_run.specs.FileScene.{scene, Runs}
-use Rattle.kt_run.specs.FileRun.{program_seen, part, names, operand_run}
-use Rattle.kt_run.proofs.FileChain.{pure_runs}
+use Rattle.kt_run.specs.Scene.{scene, Runs}
+use Rattle.kt_run.specs.Running.{program_seen, part, names, operand_run}
+use Rattle.kt_run.proofs.Chain.{pure_runs}
 use Rattle.kt_run.proofs.evaluator.Evaluator.operand.Goals as goal
 
 pub returns-in-None : goal.returns-in-None

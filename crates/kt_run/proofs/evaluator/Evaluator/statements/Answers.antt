@@ -3,9 +3,9 @@ use Rattle.std.proofs.lemmas.List.{drop_all}
 use Rattle.kt_mean.specs.declared.states.Value.{Value}
 use Rattle.kt_model.specs.BodyTrees.{stmt_tree, listed}
 use Rattle.kt_mean.specs.Evaluation.{block, block_from}
-use Rattle.kt_run.specs.FileScene.{scene, Runs}
-use Rattle.kt_run.specs.FileRun.{program_seen, part, names}
-use Rattle.kt_run.proofs.FileChain.{rest_begins, rest_same, rest_next, first_right, exit_by, pure_runs}
+use Rattle.kt_run.specs.Scene.{scene, Runs}
+use Rattle.kt_run.specs.Running.{program_seen, part, names}
+use Rattle.kt_run.proofs.Chain.{rest_begins, rest_same, rest_next, first_right, exit_by, pure_runs}
 use Rattle.kt_run.proofs.FormSteps.{statements_next}
 use Rattle.kt_run.proofs.evaluator.Evaluator.statements.Goals as goal
 

@@ -1,9 +1,9 @@
 use Rattle.std.proofs.Common.{drop, map}
 use Rattle.kt_model.specs.BodyTrees.{stmt_tree, listed}
 use Rattle.kt_mean.specs.Evaluation.{block, block_from}
-use Rattle.kt_run.specs.FileScene.{scene}
-use Rattle.kt_run.specs.FileRun.{program_seen, part, names}
-use Rattle.kt_run.proofs.FileChain.{Rest}
+use Rattle.kt_run.specs.Scene.{scene}
+use Rattle.kt_run.specs.Running.{program_seen, part, names}
+use Rattle.kt_run.proofs.Chain.{Rest}
 use Rattle.kt_run.proofs.evaluator.Evaluator.statements.Given as goal
 
 -- Whatever the statements from here on do completes the whole.

@@ -1,10 +1,10 @@
 use Rattle.std.proofs.Common.{sym, ap, subst, ◌∙◌}
 use Rattle.kt_model.specs.BodyTrees.{Tree, stmt_tree, named_there, seen as seen_in}
 use Rattle.kt_model.proofs.BodyFolds.{stmt_expr, stmt_local_any, stmt_assign_any, stmt_while, stmt_do_while, stmt_for}
-use Rattle.kt_run.specs.FileScene.{scene, Right, Runs}
-use Rattle.kt_run.specs.FileRun.{program_seen, part, names, shape}
-use Rattle.kt_run.proofs.FileChain.{same_right, same_runs}
-use Rattle.kt_run.proofs.FileSteps.{wrong_comes}
+use Rattle.kt_run.specs.Scene.{scene, Right, Runs}
+use Rattle.kt_run.specs.Running.{program_seen, part, names, shape}
+use Rattle.kt_run.proofs.Chain.{same_right, same_runs}
+use Rattle.kt_run.proofs.Steps.{wrong_comes}
 use Rattle.kt_run.proofs.FormSteps.{local_is, assign_is}
 use Rattle.kt_run.proofs.evaluator.Evaluator.stmt.Goals as goal
 

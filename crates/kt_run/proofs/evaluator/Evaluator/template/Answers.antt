@@ -4,10 +4,10 @@ use Rattle.kt_mean.specs.declared.states.Value.{Value}
 use Rattle.kt_model.specs.BodyTrees.{piece, inserted_of}
 use Rattle.kt_mean.specs.Evaluation.{with_values}
 use Rattle.kt_mean.specs.Frames.{wrong}
-use Rattle.kt_run.specs.FileScene.{scene, Right}
-use Rattle.kt_run.specs.FileRun.{program_seen, part, names}
-use Rattle.kt_run.proofs.FileChain.{rest_begins, rest_same, rest_next, first_right, exit_by}
-use Rattle.kt_run.proofs.FileSteps.{wrong_comes}
+use Rattle.kt_run.specs.Scene.{scene, Right}
+use Rattle.kt_run.specs.Running.{program_seen, part, names}
+use Rattle.kt_run.proofs.Chain.{rest_begins, rest_same, rest_next, first_right, exit_by}
+use Rattle.kt_run.proofs.Steps.{wrong_comes}
 use Rattle.kt_run.proofs.FormSteps.{inserted_next, text_next}
 use Rattle.kt_run.proofs.evaluator.Evaluator.template.Goals as goal
 

@@ -3,9 +3,9 @@ use Rattle.kt_mean.specs.declared.states.Value.{Value}
 use Rattle.kt_model.specs.BodyTrees.{piece, inserted_of}
 use Rattle.kt_mean.specs.Evaluation.{with_values}
 use Rattle.kt_mean.specs.Frames.{wrong}
-use Rattle.kt_run.specs.FileScene.{scene}
-use Rattle.kt_run.specs.FileRun.{program_seen, part, names}
-use Rattle.kt_run.proofs.FileChain.{Rest}
+use Rattle.kt_run.specs.Scene.{scene}
+use Rattle.kt_run.specs.Running.{program_seen, part, names}
+use Rattle.kt_run.proofs.Chain.{Rest}
 use Rattle.kt_run.proofs.evaluator.Evaluator.template.Given as goal
 
 -- Whatever the parts from here on do completes the whole.

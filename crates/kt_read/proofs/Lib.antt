@@ -1,3 +1,0 @@
-pub mod ByteFacts
-pub mod TokenMoves
-pub mod StatementRuns

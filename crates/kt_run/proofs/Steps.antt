@@ -1,0 +1,144 @@
+-- What single steps do.
+use Rattle.std.proofs.Common.{◌≡◌, ◌≢◌, ℕ, suc, ◌-◌, ◌<◌, arith, ◌==◌, pos, Bool, true, false, List, [], ◌∷◌, ◌++◌, Option, Some, None, IsSome, IfSome, MatchResult, Result, Ok, Err, refl, sym, ap, subst, ◌∙◌}
+use Rattle.std.proofs.lemmas.Bool.{false≢true}
+use Rattle.kt_tree.specs.declared.ast.part.Sign.{Sign}
+use Rattle.kt_tree.specs.declared.ast.part.Arithmetic.TheVariants as arithmetic
+use Rattle.kt_model.specs.declared.uses.Named.{Named}
+use Rattle.kt_model.specs.declared.uses.Named.TheVariants as named
+use Rattle.kt_model.specs.BodyTrees.{Sign', Tree}
+use Rattle.kt_outside.specs.Outside.{OutputState}
+use Rattle.kt_mean.specs.declared.states.Value.{Value}
+use Rattle.kt_mean.specs.declared.states.Value.TheVariants as value
+use Rattle.kt_mean.specs.declared.states.Limit.TheVariants as limit
+use Rattle.kt_mean.specs.Frames.{State, Run, NotWrong, over, pure, wrong}
+use Rattle.kt_mean.specs.Evaluation.{Program, eval, entered, choose, read, read_value, store, write, write_over, operated, built_in, print, text_of_value, println_name, print_name}
+use Rattle.kt_run.specs.declared.state.State.{State as Kept}
+use Rattle.kt_run.specs.declared.state.Halt.{Halt}
+use Rattle.kt_run.specs.declared.state.Halt.TheVariants as halt
+use Rattle.kt_run.specs.declared.operators.Operator.{Operator}
+use Rattle.kt_run.specs.declared.operators.Operator.TheVariants as operator
+use Rattle.kt_run.specs.Slots.{held}
+use Rattle.kt_run.specs.Scene.{Scene, scene, seen, Right, Runs, Quiet, Prints}
+use Rattle.kt_run.specs.Running.{name_run}
+use Rattle.kt_run.specs.Operators.{operation_of, combined, with_sign, printed, gives, prints}
+use Rattle.kt_run.proofs.Chain.{quiet_runs, same_runs, pure_runs, memory_runs, prints_runs}
+
+-- a wrong use doesn't come
+pub wrong_comes : {A : Type 0} (s : Kept) → Right (wrong {A = A}) s → ⊥
+unfolding wrong
+wrong_comes s h = h.right []
+
+-- a local that is read holds a value
+pub no_value : (s : Kept) (x : ℕ) → held s.frame x ≡ None → Right (read x) s → ⊥
+unfolding read wrong
+no_value s x e h = subst (λ (o : Option Value). NotWrong (read_value o (seen s [])).ending) e (h.right [])
+
+-- an assignment that is no wrong use is a write
+written : (fixed : Bool) (o : Option Value) (x : ℕ) (v : Value) (s : State) → NotWrong (write_over fixed o x v s).ending → write_over fixed o x v s ≡ store x (Some v) s
+unfolding wrong
+written true None x v s h = refl
+written true (Some u) x v s h = absurd h
+written false o x v s h = refl
+
+pub write_quiet : (fixed : Bool) (x : ℕ) (v : Value) (s : Kept) (r : Result Value Halt) (t : Kept) → Right (write fixed x v) s → Quiet (store x (Some v)) s r t → Quiet (write fixed x v) s r t
+unfolding write
+write_quiet fixed x v s (Ok a) t h k = λ input. written fixed (held s.frame x) x v (seen s input) (h.right input) ∙ k input
+write_quiet fixed x v s (Err (halt.Way w)) t h k = k
+write_quiet fixed x v s (Err (halt.Over l)) t h k = λ input. written fixed (held s.frame x) x v (seen s input) (h.right input) ∙ k input
+write_quiet fixed x v s (Err halt.OutputFault) t h k = k
+write_quiet fixed x v s (Err halt.NoMemory) t h k = k
+
+-- a name that is no local
+pub no_local : (n : Named) (s : Kept) → ((x : ℕ) (fixed : Bool) → n ≢ named.Variable x fixed) → Right (name_run n) s → ⊥
+no_local (named.Variable x fixed) s other h = other x fixed refl
+no_local (named.Function f r) s other h = wrong_comes s h
+no_local (named.BuiltIn f r) s other h = wrong_comes s h
+no_local named.Other s other h = wrong_comes s h
+
+-- ---- values
+
+-- what gives a value or is a wrong use
+pub gives_some : (o : Option Value) (s : Kept) → Right (gives o) s → IsSome o
+unfolding wrong
+gives_some (Some v) s h = refl
+gives_some None s h = absurd (h.right [])
+
+pub gives_runs : (p : Run Value) (o : Option Value) (v : Value) (s : Scene) → p ≡ gives o → o ≡ Some v → Runs p s (Ok v) s
+gives_runs p o v s same e = same_runs p (gives o) s (Ok v) s same (subst (λ (x : Option Value). Runs (gives x) s (Ok v) s) (sym e) (pure_runs v s))
+
+pub operated_sign : (o : Sign) (v : Value) → operated (Sign' o) (v ∷ []) ≡ gives (with_sign o v)
+operated_sign o value.Unit = refl
+operated_sign o (value.Bool b) = refl
+operated_sign o (value.Int k) = refl
+
+pub operated_two : (o : Operator) (a b : Value) → operated (operation_of o) (a ∷ b ∷ []) ≡ gives (combined o a b)
+operated_two operator.Sum (value.Int a) (value.Int b) = refl
+operated_two operator.Sum (value.Int a) value.Unit = refl
+operated_two operator.Sum (value.Int a) (value.Bool b) = refl
+operated_two operator.Sum value.Unit b = refl
+operated_two operator.Sum (value.Bool a) b = refl
+operated_two (operator.Arithmetic arithmetic.Subtract) (value.Int a) (value.Int b) = refl
+operated_two (operator.Arithmetic arithmetic.Multiply) (value.Int a) (value.Int b) = refl
+operated_two (operator.Arithmetic arithmetic.Divide) (value.Int a) (value.Int b) = refl
+operated_two (operator.Arithmetic arithmetic.Remainder) (value.Int a) (value.Int b) = refl
+operated_two (operator.Arithmetic arithmetic.Subtract) (value.Int a) value.Unit = refl
+operated_two (operator.Arithmetic arithmetic.Subtract) (value.Int a) (value.Bool b) = refl
+operated_two (operator.Arithmetic arithmetic.Subtract) value.Unit b = refl
+operated_two (operator.Arithmetic arithmetic.Subtract) (value.Bool a) b = refl
+operated_two (operator.Arithmetic arithmetic.Multiply) (value.Int a) value.Unit = refl
+operated_two (operator.Arithmetic arithmetic.Multiply) (value.Int a) (value.Bool b) = refl
+operated_two (operator.Arithmetic arithmetic.Multiply) value.Unit b = refl
+operated_two (operator.Arithmetic arithmetic.Multiply) (value.Bool a) b = refl
+operated_two (operator.Arithmetic arithmetic.Divide) (value.Int a) value.Unit = refl
+operated_two (operator.Arithmetic arithmetic.Divide) (value.Int a) (value.Bool b) = refl
+operated_two (operator.Arithmetic arithmetic.Divide) value.Unit b = refl
+operated_two (operator.Arithmetic arithmetic.Divide) (value.Bool a) b = refl
+operated_two (operator.Arithmetic arithmetic.Remainder) (value.Int a) value.Unit = refl
+operated_two (operator.Arithmetic arithmetic.Remainder) (value.Int a) (value.Bool b) = refl
+operated_two (operator.Arithmetic arithmetic.Remainder) value.Unit b = refl
+operated_two (operator.Arithmetic arithmetic.Remainder) (value.Bool a) b = refl
+operated_two (operator.Compare o) a b = refl
+operated_two (operator.Equal o) a b = refl
+
+-- an integer
+pub int_runs : (k : ℕ) (r : Result Value Halt) (s : Kept) (out : OutputState) → MatchResult r (λ v. v ≡ value.Int (pos k)) (λ h. h ≡ halt.NoMemory) → Runs (pure (value.Int (pos k))) (scene s out) r (scene s out)
+int_runs k (Ok v) s out e = subst (λ (w : Value). Runs (pure w) (scene s out) (Ok v) (scene s out)) e (pure_runs v (scene s out))
+int_runs k (Err h) s out e = subst (λ (x : Halt). Runs (pure (value.Int (pos k))) (scene s out) (Err x) (scene s out)) (sym e) (memory_runs (pure (value.Int (pos k))) s s out)
+
+-- ---- built-in functions
+
+pub printed_is : (name : ℕ) (vs : List Value) → built_in name vs ≡ prints (printed name vs)
+printed_is name [] = by (name == println_name) where
+  by : (b : Bool) → choose b (print (10 ∷ [])) wrong ≡ prints (choose b (Some (10 ∷ [])) None)
+  by true = refl
+  by false = refl
+printed_is name (v ∷ []) = by (name == println_name) (name == print_name) where
+  by : (b c : Bool) → choose b (print (text_of_value v ++ 10 ∷ [])) (choose c (print (text_of_value v)) wrong) ≡ prints (choose b (Some (text_of_value v ++ 10 ∷ [])) (choose c (Some (text_of_value v)) None))
+  by true c = refl
+  by false true = refl
+  by false false = refl
+printed_is name (v ∷ w ∷ vs) = refl
+
+pub printed_some : (name : ℕ) (vs : List Value) (s : Kept) → Right (built_in name vs) s → IsSome (printed name vs)
+printed_some name vs s h = some (printed name vs) (subst (λ r. Right r s) (printed_is name vs) h) where
+  some : (o : Option (List ℕ)) → Right (prints o) s → IsSome o
+  some (Some text) k = refl
+  some None k = absurd (wrong_comes s k)
+
+pub built_in_runs : (name : ℕ) (vs : List Value) (s : Kept) (old new : OutputState) (r : Result Value Halt) → IsSome (printed name vs) → IfSome (printed name vs) (λ text. Prints old new text r) → Runs (built_in name vs) (scene s old) r (scene s new)
+built_in_runs name vs s old new r some h = subst (λ p. Runs p (scene s old) r (scene s new)) (sym (printed_is name vs)) (by (printed name vs) some h) where
+  by : (o : Option (List ℕ)) → IsSome o → IfSome o (λ text. Prints old new text r) → Runs (prints o) (scene s old) r (scene s new)
+  by (Some text) i k = prints_runs s old new text r k
+  by None i k = absurd (false≢true i)
+
+-- ---- depth
+
+-- where no tree may be entered
+pub no_depth : (p : Program) (depth : ℕ) (t : Tree) (s : Kept) (out : OutputState) → depth ≡ 0 → Runs (eval p depth t) (scene s out) (Err (halt.Over limit.Steps)) (scene s out)
+unfolding eval over
+no_depth p depth t s out e = subst (λ n. Runs (eval p n t) (scene s out) (Err (halt.Over limit.Steps)) (scene s out)) (sym e) (quiet_runs (over limit.Steps) s (Err (halt.Over limit.Steps)) s out (λ input. refl))
+
+-- a tree is entered with its parts one depth less
+pub deeper : (p : Program) (depth : ℕ) (t : Tree) → 0 < depth → eval p depth t ≡ entered p (eval p (depth - 1)) t
+unfolding eval
+deeper p depth t h = let e : depth ≡ suc (depth - 1) = omega arith in ap (λ n. eval p n t) e

@@ -1,6 +1,0 @@
-use Rattle.std.proofs.Common.{sym, ◌∙◌}
-use Rattle.kt_run.proofs.TreeSteps.{no_value}
-use Rattle.kt_run.proofs.interpreter.read.Goals as goal
-
-pub unreachable-requires : goal.unreachable-requires
-unreachable-requires c = no_value c.args.state.now c.args.local (sym c.get.ensures ∙ c.in-None.is) c.requires.right
