@@ -6,7 +6,7 @@ use Rattle.kt_model.specs.Findings.{AreFindings}
 use Rattle.kt_model.specs.FlowRules.{IsFlowViolated, SettlesEntered}
 use Rattle.kt_model.specs.NameUses.{Resolved}
 use Rattle.kt_model.specs.Scopes.{IsResolved}
-use Rattle.kt_model.specs.Typing.{IsTypingFinding}
+use Rattle.kt_typing.specs.Typing.{IsTypingFinding}
 use Rattle.kt_model.specs.declared.finding.Finding.{Finding}
 use Rattle.kt_model.specs.declared.finding.PhaseFault.{PhaseFault}
 use Rattle.kt_model.specs.declared.finding.PhaseFault.TheVariants.{Findings, NoMemory}

@@ -16,7 +16,7 @@ use Rattle.kt_model.specs.NameUses.{Resolved}
 use Rattle.kt_model.specs.Order.{by_place}
 use Rattle.kt_model.specs.Scopes.{IsResolved}
 use Rattle.kt_model.specs.ShapeRules.{IsShapeViolated}
-use Rattle.kt_model.specs.Typing.{IsTypingFinding}
+use Rattle.kt_typing.specs.Typing.{IsTypingFinding}
 use Rattle.kt_model.specs.declared.finding.Finding.{Finding}
 use Rattle.kt_model.specs.declared.uses.Owner.TheVariants as owner
 use Rattle.kt_sound.specs.FileSoundness.{file_classes}

@@ -12,8 +12,8 @@ use Rattle.kt_model.proofs.BodyFolds.{tree_of_kind, kind_return_any, kind_return
 use Rattle.kt_model.specs.declared.uses.Named.{Named}
 use Rattle.kt_model.specs.BuiltIns.{built_in_named}
 use Rattle.kt_model.specs.BodyTrees.{Tree, Trees, Mark, whole, Operation, Operation', Name', Paren', Not', And', Or', If', Declare', Local', Assign', Compound', Call', Return', Throw', Shut', Empty', First', Sum', Sign', BuiltIn', Piece, Text', Inserted', inserted_of, Seen, seen, seen_trees, seen_optional, listed, expr_tree, stmt_tree, piece}
-use Rattle.kt_model.specs.Typing.{TypeContext, LocalTypes, Ways, Each, Then, first_way, rest_ways, Judgement, Judgements, no_trees, in_front, alone, closed, outcome, claimed, settled, type_in, finding_in, have_types, judged, all_judged, inside, enclosed, int, unit, look_up, declared, initialised, known_type, value_way, type_or_none, declaration_claim, assign_claim, name_claim, old_value, compound_claim, operation_demand, operator_demand, operator_of, call_demand, shut, count, is_text, first_of, left_way, right_way, sum_operator, built_in_signature}
-use Rattle.kt_model.specs.declared.typing.Operator.{Operator}
+use Rattle.kt_typing.specs.Typing.{TypeContext, LocalTypes, Ways, Each, Then, first_way, rest_ways, Judgement, Judgements, no_trees, in_front, alone, closed, outcome, claimed, settled, type_in, finding_in, have_types, judged, all_judged, inside, enclosed, int, unit, look_up, declared, initialised, known_type, value_way, type_or_none, declaration_claim, assign_claim, name_claim, old_value, compound_claim, operation_demand, operator_demand, operator_of, call_demand, shut, count, is_text, first_of, left_way, right_way, sum_operator, built_in_signature}
+use Rattle.kt_typing.specs.declared.claims.Operator.{Operator}
 use Rattle.kt_model.specs.declared.finding.Rule.TheVariants.{Syntax}
 use Rattle.kt_infer.specs.declared.calls.Signature.{Signature}
 use Rattle.kt_infer.specs.declared.calls.Demand.{Demand}
@@ -21,11 +21,11 @@ use Rattle.kt_infer.specs.Demands.{as_signature, as_demand}
 use Rattle.kt_model.specs.Classes.{Classes}
 use Rattle.kt_model.specs.declared.kinds.KtType.{KtType}
 use Rattle.kt_model.specs.declared.finding.Finding.{Finding}
-use Rattle.kt_model.specs.declared.typing.TypeRow.{TypeRow}
-use Rattle.kt_model.specs.declared.typing.Way.{Way}
-use Rattle.kt_model.specs.declared.typing.Way.TheVariants.{Unvalued, Plain, Inferred, Checked}
-use Rattle.kt_model.specs.declared.typing.Claim.{Claim}
-use Rattle.kt_model.specs.declared.typing.Claim.TheVariants.{Gives, Breaks, Lacks}
+use Rattle.kt_typing.specs.declared.claims.TypeRow.{TypeRow}
+use Rattle.kt_typing.specs.declared.claims.Way.{Way}
+use Rattle.kt_typing.specs.declared.claims.Way.TheVariants.{Unvalued, Plain, Inferred, Checked}
+use Rattle.kt_typing.specs.declared.claims.Claim.{Claim}
+use Rattle.kt_typing.specs.declared.claims.Claim.TheVariants.{Gives, Breaks, Lacks}
 use Rattle.kt_infer.specs.Noting.{Keeps, Judges, JudgesAll, IsOpened, OpensIn, Opens, Closes, Continues, outcome_of, own_rows, rows_of}
 use Rattle.kt_infer.specs.declared.notes.Notes.{Notes}
 use Rattle.kt_infer.specs.declared.notes.Opened.{Opened}

@@ -5,7 +5,7 @@ use Rattle.kt_model.specs.Classes.{Classes}
 use Rattle.kt_model.specs.NameUses.{Resolved}
 use Rattle.kt_model.specs.BodyTrees.{Trees}
 use Rattle.kt_model.specs.Bodies.{owner_parameters, owner_trees}
-use Rattle.kt_model.specs.Typing.{Ways, context_of, all_judged, body_judged, owner_ways, parameter_types}
+use Rattle.kt_typing.specs.Typing.{Ways, context_of, all_judged, body_judged, owner_ways, parameter_types}
 use Rattle.kt_model.specs.declared.uses.Owner.{Owner}
 use Rattle.kt_infer.specs.Noting.{Keeps, JudgesAll}
 use Rattle.kt_infer.specs.declared.notes.Notes.{Notes}

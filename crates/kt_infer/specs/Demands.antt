@@ -1,6 +1,6 @@
 -- What calls ask for, as the code keeps it: one way for all arguments.
 use Rattle.std.specs.Prelude.{ℕ}
-use Rattle.kt_model.specs.Typing as spec
+use Rattle.kt_typing.specs.Typing as spec
 use Rattle.kt_infer.specs.declared.calls.Signature.{Signature}
 use Rattle.kt_infer.specs.declared.calls.Demand.{Demand}
 

@@ -3,12 +3,12 @@ use Rattle.std.specs.Prelude.{◌≡◌, ◌++◌, ◌&&◌, ◌∷◌, [], ℕ,
 use Rattle.kt_tree.specs.declared.token.Span.{Span}
 use Rattle.kt_model.specs.Classes.{Classes, outlines, written}
 use Rattle.kt_model.specs.BodyTrees.{Tree}
-use Rattle.kt_model.specs.Typing.{TypeContext, LocalTypes, Judgement, Judgements, context_of, outcome, type_in, finding_in, have_types, judged}
+use Rattle.kt_typing.specs.Typing.{TypeContext, LocalTypes, Judgement, Judgements, context_of, outcome, type_in, finding_in, have_types, judged}
 use Rattle.kt_model.specs.declared.kinds.KtType.{KtType}
-use Rattle.kt_model.specs.declared.typing.Way.{Way}
-use Rattle.kt_model.specs.declared.typing.Claim.{Claim}
-use Rattle.kt_model.specs.declared.typing.Outcome.{Outcome}
-use Rattle.kt_model.specs.declared.typing.TypeRow.{TypeRow}
+use Rattle.kt_typing.specs.declared.claims.Way.{Way}
+use Rattle.kt_typing.specs.declared.claims.Claim.{Claim}
+use Rattle.kt_typing.specs.declared.claims.Outcome.{Outcome}
+use Rattle.kt_typing.specs.declared.claims.TypeRow.{TypeRow}
 use Rattle.kt_model.specs.declared.uses.Body.{Body}
 use Rattle.kt_infer.specs.declared.notes.Notes.{Notes}
 use Rattle.kt_infer.specs.declared.notes.Opened.{Opened}

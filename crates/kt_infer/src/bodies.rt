@@ -2,12 +2,12 @@
 ghost use Rattle.std.specs.Prelude.{◌≡◌, [], IfOk, OnOk, map};
 ghost use Rattle.std.specs.Option.{option_copied};
 ghost use Rattle.kt_model.specs.Classes.{outlines, written};
-ghost use Rattle.kt_model.specs.NameUses.{named_at};
+ghost use Rattle.kt_model.specs.NameUses.{named_at, declaration_type, function_place};
 ghost use Rattle.kt_model.specs.BodyTrees.{listed};
 ghost use Rattle.kt_model.specs.Bodies.{body_trees_of, owner_parameters, owner_trees};
 ghost use Rattle.kt_model.specs.Findings.{AreFindings};
-ghost use Rattle.kt_model.specs.Typing as spec;
-ghost use Rattle.kt_model.specs.Typing.{IsTypingFinding, all_judged, body_judged, body_ways, declaration_type, function_place, owner_ways, parameter_types};
+ghost use Rattle.kt_typing.specs.Typing as spec;
+ghost use Rattle.kt_typing.specs.Typing.{IsTypingFinding, all_judged, body_judged, body_ways, owner_ways, parameter_types};
 ghost use Rattle.kt_infer.specs.Noting.{JudgesAll, Keeps, typing_of};
 
 use crate::calls::function_result;
@@ -16,7 +16,7 @@ use crate::notes::Notes;
 use indexmap::IndexMap;
 use kt_model::finding::{Findings, in_order};
 use kt_model::kinds::KtType;
-use kt_model::typing::{Cast, TypeRow, Way};
+use kt_typing::{Cast, TypeRow, Way};
 use kt_model::uses::{Body, Owner};
 use kt_tree::NoMemory;
 use kt_tree::ast::FunctionBody;
@@ -97,7 +97,7 @@ impl Notes {
 
 /// The types of a body's trees, in the order of the pass, and the findings of typing there: exactly those of their definition, in order. There are no casts
 /// yet. `NoMemory` where there is none for them. Each tree is typed once.
-#[tactic(auto, unfolding(kt_model::specs::Typing::body_judged))]
+#[tactic(auto, unfolding(kt_typing::specs::Typing::body_judged))]
 pub fn type_body(alloc: Global, body: &Body<'_>) -> Result<Typed, NoMemory>
     ensures types { IfOk result (λ it. it.types ≡ (body_judged body.now.file.now (written (outlines body.now.table.now)) body.now.uses.now body.now.owner).rows) }
     ensures casts { IfOk result (λ it. it.casts ≡ []) }

@@ -3,13 +3,13 @@ ghost use Rattle.std.specs.Prelude.{◌≡◌, ◌+◌, length, option_map, opti
 ghost use Rattle.kt_tree.specs.declared.token.Span.{Span};
 ghost use Rattle.kt_model.specs.BodyTrees as body;
 ghost use Rattle.kt_model.specs.BuiltIns.{BuiltIn, built_in_named};
-ghost use Rattle.kt_model.specs.Typing as spec;
+ghost use Rattle.kt_typing.specs.Typing as spec;
 ghost use Rattle.kt_infer.specs.Demands.{as_demand, as_signature};
 
 use crate::choices::UNIT;
 use kt_model::finding::Rule;
 use kt_model::kinds::{Head, KtType};
-use kt_model::typing::{Claim, Way};
+use kt_typing::{Claim, Way};
 use kt_model::uses::Uses;
 use kt_tree::Span;
 
@@ -94,7 +94,7 @@ fn open_signature(parameters: &[u32], gives: Option<KtType>) -> Option<Signature
 }
 
 /// What a call of a function of the file needs, where it is open.
-#[tactic(auto, unfolding(kt_model::specs::Typing::signature_of))]
+#[tactic(auto, unfolding(kt_typing::specs::Typing::signature_of))]
 pub fn function_signature(uses: &Uses, function: u32) -> Option<Signature>
     ensures { spec.signature_of uses.now function ≡ option_map as_signature result }
 {

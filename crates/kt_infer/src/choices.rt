@@ -3,13 +3,13 @@ ghost use Rattle.std.specs.Prelude.{◌≡◌, ◌&&◌, Bool, Option, is_some};
 ghost use Rattle.kt_tree.specs.declared.token.Span.{Span};
 ghost use Rattle.kt_model.specs.Classes.{outlines, written};
 ghost use Rattle.kt_model.specs.BodyTrees as body;
-ghost use Rattle.kt_model.specs.Typing as spec;
+ghost use Rattle.kt_typing.specs.Typing as spec;
 
 use crate::subtypes::is_subtype;
 use kt_model::class_table::ClassTable;
 use kt_model::finding::Rule;
 use kt_model::kinds::{Head, KtType};
-use kt_model::typing::{Claim, Operator, Outcome, Way};
+use kt_typing::{Claim, Operator, Outcome, Way};
 use kt_tree::Span;
 use kt_tree::ast::Arithmetic;
 

@@ -2,7 +2,7 @@
 ghost use Rattle.std.specs.Prelude.{◌≡◌, ◌++◌, ◌∷◌, [], map, nat_eq, true, Some, IfOk, OnOk};
 ghost use Rattle.std.specs.Map.{lookup};
 ghost use Rattle.kt_model.specs.Classes.{outlines, written};
-ghost use Rattle.kt_model.specs.Typing as spec;
+ghost use Rattle.kt_typing.specs.Typing as spec;
 ghost use Rattle.kt_infer.specs.Noting.{Closes, Keeps, IsOpened, outcome_of, rows_of};
 
 use crate::choices::{is_text, outcome, sum_operator, type_in};
@@ -10,7 +10,7 @@ use indexmap::IndexMap;
 use kt_model::class_table::ClassTable;
 use kt_model::finding::{Finding, Rule};
 use kt_model::kinds::KtType;
-use kt_model::typing::{Claim, Operator, Outcome, TypeRow, Way};
+use kt_typing::{Claim, Operator, Outcome, TypeRow, Way};
 use kt_tree::{NoMemory, Span};
 use sqlite_items::Items;
 use std::alloc::Global;

@@ -5,8 +5,8 @@ ghost use Rattle.kt_model.specs.declared.uses.Named.{Named};
 ghost use Rattle.kt_model.specs.Classes.{outlines, written};
 ghost use Rattle.kt_model.specs.NameUses.{named_at};
 ghost use Rattle.kt_model.specs.BodyTrees.{Mark, Operation, stmt_tree, seen_optional, listed, seen, local_tree, assign_tree, assigned_tree, named_there, compound_of};
-ghost use Rattle.kt_model.specs.Typing as spec;
-ghost use Rattle.kt_model.specs.Typing.{Each, judged, all_judged};
+ghost use Rattle.kt_typing.specs.Typing as spec;
+ghost use Rattle.kt_typing.specs.Typing.{Each, judged, all_judged};
 ghost use Rattle.kt_infer.specs.Noting.{Judges, JudgesAll, Opens, typing_of};
 
 use crate::choices::{
@@ -17,7 +17,7 @@ use crate::notes::{Notes, Opened, opened_tree, shut};
 use kt_model::class_table::ClassTable;
 use kt_model::finding::Rule;
 use kt_model::kinds::KtType;
-use kt_model::typing::{Claim, Operator, Way};
+use kt_typing::{Claim, Operator, Way};
 use kt_model::uses::{Body, Named};
 use kt_tree::ast::{Assignment, Expr, ExprKind, Stmt};
 use kt_tree::{NoMemory, Span};

@@ -3,7 +3,7 @@ ghost use Rattle.std.specs.Prelude.{◌≡◌, ◌==◌};
 ghost use Rattle.std.specs.List.{list_any};
 ghost use Rattle.kt_model.specs.Classes.{outlines, written};
 ghost use Rattle.kt_model.specs.Subtypes as spec;
-ghost use Rattle.kt_model.specs.Typing as typing;
+ghost use Rattle.kt_typing.specs.Typing as typing;
 
 use kt_model::class_table::ClassTable;
 use kt_model::kinds::KtType;
@@ -38,7 +38,7 @@ fn is_head_under(table: &ClassTable, low: Option<u32>, high: Option<u32>) -> boo
 }
 
 /// Whether each value of the first type is one of the second.
-#[tactic(auto, unfolding(kt_model::specs::Typing::is_subtype))]
+#[tactic(auto, unfolding(kt_typing::specs::Typing::is_subtype))]
 pub fn is_subtype(table: &ClassTable, a: KtType, b: KtType) -> bool
     ensures { result ≡ typing.is_subtype (written (outlines table.now)) a b }
 {

@@ -4,8 +4,8 @@ ghost use Rattle.std.specs.Prelude.{◌≡◌, ◌&&◌, is_some, IfOk, List, []
 ghost use Rattle.kt_tree.specs.declared.token.Span.{Span};
 ghost use Rattle.kt_model.specs.NameUses.{named_at};
 ghost use Rattle.kt_model.specs.BodyTrees.{Mark, expr_tree, name_tree, call_tree, seen, seen_trees, piece, inserted_of, named_there, whole};
-ghost use Rattle.kt_model.specs.Typing as spec;
-ghost use Rattle.kt_model.specs.Typing.{Each, judged, all_judged};
+ghost use Rattle.kt_typing.specs.Typing as spec;
+ghost use Rattle.kt_typing.specs.Typing.{Each, judged, all_judged};
 ghost use Rattle.kt_infer.specs.Noting.{IsOpened, Judges, JudgesAll, Opens, typing_of};
 
 use crate::calls::{built_in_signature, demanded, function_signature};
@@ -13,7 +13,7 @@ use crate::choices::{INT, arithmetic_operator, both, left_way, name_claim, right
 use crate::notes::{Notes, Opened, opened_tree, shut};
 use kt_model::finding::Rule;
 use kt_model::kinds::KtType;
-use kt_model::typing::{Claim, Operator, Way};
+use kt_typing::{Claim, Operator, Way};
 use kt_model::uses::{Body, Named};
 use kt_tree::ast::{Expr, ExprKind, StringPart};
 use kt_tree::{NoMemory, Span};

@@ -4,11 +4,10 @@ use Rattle.kt_tree.specs.declared.ast.declaration.File.{File}
 use Rattle.kt_tree.specs.declared.ast.declaration.FunctionDecl.{FunctionDecl}
 use Rattle.kt_tree.specs.declared.ast.declaration.FunctionBody.{FunctionBody}
 use Rattle.kt_tree.specs.declared.ast.declaration.FunctionBody.TheVariants as written
-use Rattle.kt_model.specs.NameUses.{Resolved, named_at, parameters_at}
+use Rattle.kt_model.specs.NameUses.{Resolved, named_at, parameters_at, declaration_type, function_place}
 use Rattle.kt_model.specs.TopNames.{top_names}
 use Rattle.kt_model.specs.DeclarationRules.{is_main}
 use Rattle.kt_model.specs.Bodies.{body_trees_of}
-use Rattle.kt_model.specs.Typing.{declaration_type, function_place}
 use Rattle.kt_mean.specs.Evaluation.{Function, Program}
 
 abbrev pub is_expression : Option FunctionBody → Bool

@@ -3,10 +3,10 @@ use Rattle.std.proofs.Common.{◌≡◌, ◌==◌, ℕ, List, [], ◌∷◌, con
 use Rattle.std.specs.Cmp.Lexicographic.{pointwise}
 use Rattle.kt_model.specs.Codes.{code_of}
 use Rattle.kt_model.specs.declared.finding.Rule.{Rule}
-use Rattle.kt_model.specs.declared.finding.Rule.TheVariants.{SourceTooLong, Syntax, UnknownName, DuplicateLocal, Unassigned, ValTwice, Duplicate, UnknownType, Supertype, SupertypeCycle, NoMain, Modifier, Body, NoType, ReservedMember, Override, Conflict, AbstractMember, NotUtf8, BadToken, TooDeep, NotAValue, NotAFunction, AssignTarget, Mismatch, ArgumentCount, TooManyLocals, FlowTooLarge}
+use Rattle.kt_model.specs.declared.finding.Rule.TheVariants.{SourceTooLong, Syntax, UnknownName, DuplicateLocal, Unassigned, ValTwice, Duplicate, UnknownType, Supertype, SupertypeCycle, NoMain, Modifier, Body, NoType, ReservedMember, Override, Conflict, AbstractMember, NotUtf8, BadToken, TooDeep, NotAValue, NotAFunction, AssignTarget, Mismatch, ArgumentCount, Equality, TooManyLocals, FlowTooLarge}
 
 every_rule : List Rule
-every_rule = SourceTooLong ∷ Syntax ∷ UnknownName ∷ DuplicateLocal ∷ Unassigned ∷ ValTwice ∷ Duplicate ∷ UnknownType ∷ Supertype ∷ SupertypeCycle ∷ NoMain ∷ Modifier ∷ Body ∷ NoType ∷ ReservedMember ∷ Override ∷ Conflict ∷ AbstractMember ∷ NotUtf8 ∷ BadToken ∷ TooDeep ∷ NotAValue ∷ NotAFunction ∷ AssignTarget ∷ Mismatch ∷ ArgumentCount ∷ TooManyLocals ∷ FlowTooLarge ∷ []
+every_rule = SourceTooLong ∷ Syntax ∷ UnknownName ∷ DuplicateLocal ∷ Unassigned ∷ ValTwice ∷ Duplicate ∷ UnknownType ∷ Supertype ∷ SupertypeCycle ∷ NoMain ∷ Modifier ∷ Body ∷ NoType ∷ ReservedMember ∷ Override ∷ Conflict ∷ AbstractMember ∷ NotUtf8 ∷ BadToken ∷ TooDeep ∷ NotAValue ∷ NotAFunction ∷ AssignTarget ∷ Mismatch ∷ ArgumentCount ∷ Equality ∷ TooManyLocals ∷ FlowTooLarge ∷ []
 
 -- the rule of a code
 rule_of : List ℕ → List Rule → Rule
@@ -41,6 +41,7 @@ rule_of-code NotAFunction = refl
 rule_of-code AssignTarget = refl
 rule_of-code Mismatch = refl
 rule_of-code ArgumentCount = refl
+rule_of-code Equality = refl
 rule_of-code TooManyLocals = refl
 rule_of-code FlowTooLarge = refl
 

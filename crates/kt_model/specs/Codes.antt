@@ -1,7 +1,7 @@
 -- The codes and the texts of the rules. They are this project's own.
 use Rattle.std.specs.Prelude.{ℕ, List, codes}
 use Rattle.kt_model.specs.declared.finding.Rule.{Rule}
-use Rattle.kt_model.specs.declared.finding.Rule.TheVariants.{SourceTooLong, Syntax, UnknownName, DuplicateLocal, Unassigned, ValTwice, Duplicate, UnknownType, Supertype, SupertypeCycle, NoMain, Modifier, Body, NoType, ReservedMember, Override, Conflict, AbstractMember, NotUtf8, BadToken, TooDeep, NotAValue, NotAFunction, AssignTarget, Mismatch, ArgumentCount, TooManyLocals, FlowTooLarge}
+use Rattle.kt_model.specs.declared.finding.Rule.TheVariants.{SourceTooLong, Syntax, UnknownName, DuplicateLocal, Unassigned, ValTwice, Duplicate, UnknownType, Supertype, SupertypeCycle, NoMain, Modifier, Body, NoType, ReservedMember, Override, Conflict, AbstractMember, NotUtf8, BadToken, TooDeep, NotAValue, NotAFunction, AssignTarget, Mismatch, ArgumentCount, Equality, TooManyLocals, FlowTooLarge}
 
 abbrev pub code_of : Rule → List ℕ
 code_of SourceTooLong = codes "SOURCE_TOO_LONG"
@@ -30,6 +30,7 @@ code_of NotAFunction = codes "NOT_A_FUNCTION"
 code_of AssignTarget = codes "ASSIGN_TARGET"
 code_of Mismatch = codes "MISMATCH"
 code_of ArgumentCount = codes "ARGUMENT_COUNT"
+code_of Equality = codes "EQUALITY"
 code_of TooManyLocals = codes "TOO_MANY_LOCALS"
 code_of FlowTooLarge = codes "FLOW_TOO_LARGE"
 
@@ -60,5 +61,6 @@ text_of NotAFunction = codes "name is not a function"
 text_of AssignTarget = codes "cannot be assigned"
 text_of Mismatch = codes "type does not fit"
 text_of ArgumentCount = codes "wrong number of arguments"
+text_of Equality = codes "values cannot be equal"
 text_of TooManyLocals = codes "too many variables"
 text_of FlowTooLarge = codes "body is too large"

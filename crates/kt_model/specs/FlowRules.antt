@@ -4,7 +4,6 @@
 -- parameter is assigned only where it is assigned along none. The codes, the spans and the limits are this project's own. Paths go by nodes; all of them,
 -- one at a time. The code numbers the nodes and solves equations over their edges.
 use Rattle.std.specs.Prelude.{◌≡◌, ℕ, ◌<◌, Bool, true, false, List, [], ◌∷◌, length, Some, Contains, slice_get, IsTrue, ◌↔◌}
-use Rattle.kt_tree.specs.declared.token.Span.{Span}
 use Rattle.kt_tree.specs.declared.ast.declaration.File.{File}
 use Rattle.kt_tree.specs.declared.ast.declaration.FunctionDecl.{FunctionDecl}
 use Rattle.kt_model.specs.NameUses.{Resolved}

@@ -29,4 +29,3 @@ pub mod ShapeRules
 pub mod BodyPaths
 pub mod TreesWithin
 pub mod FlowRules
-pub mod Typing

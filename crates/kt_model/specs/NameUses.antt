@@ -1,5 +1,7 @@
 -- What the names of a file stand for, as the graph of a body looks at it.
-use Rattle.std.specs.Prelude.{ℕ, not, List, Option, Some, None, find, ◌==◌, [], slice_get, unwrap_or}
+use Rattle.std.specs.Prelude.{ℕ, ◌+◌, not, List, Option, Some, None, find, length, ◌==◌, [], slice_get, unwrap_or, option_and_then}
+use Rattle.kt_model.specs.BuiltIns.{built_in_functions}
+use Rattle.kt_model.specs.declared.kinds.KtType.{KtType}
 use Rattle.kt_model.specs.declared.uses.Declaration.{Declaration}
 use Rattle.kt_model.specs.declared.uses.DeclarationKind.TheVariants as kind
 use Rattle.kt_model.specs.declared.uses.UseRow.{UseRow}
@@ -37,3 +39,11 @@ named_at u tree = named_in u (find (λ row. row.tree == tree) u.rows)
 -- the declarations of a function's parameters
 abbrev pub parameters_at : Resolved → ℕ → List ℕ
 parameters_at u f = unwrap_or (slice_get u.parameters f) []
+
+-- the written type of a declaration; of a function it is the result
+abbrev pub declaration_type : Resolved → ℕ → Option KtType
+declaration_type resolved x = option_and_then (λ d. d.written) (slice_get resolved.declared x)
+
+-- the declaration of a function of the file: they stand behind the built-in ones
+abbrev pub function_place : ℕ → ℕ
+function_place f = length built_in_functions + f

@@ -67,6 +67,8 @@ pub enum Rule {
     Mismatch,
     /// A call has another number of arguments than what it calls.
     ArgumentCount,
+    /// Two values that can never be equal are asked to be.
+    Equality,
     /// A body has more variables than are allowed.
     TooManyLocals,
     /// The graph of a body is larger than is allowed.
@@ -105,6 +107,7 @@ impl Rule {
             Rule::AssignTarget => "ASSIGN_TARGET",
             Rule::Mismatch => "MISMATCH",
             Rule::ArgumentCount => "ARGUMENT_COUNT",
+            Rule::Equality => "EQUALITY",
             Rule::TooManyLocals => "TOO_MANY_LOCALS",
             Rule::FlowTooLarge => "FLOW_TOO_LARGE",
         }
@@ -141,6 +144,7 @@ impl Rule {
             Rule::AssignTarget => "cannot be assigned",
             Rule::Mismatch => "type does not fit",
             Rule::ArgumentCount => "wrong number of arguments",
+            Rule::Equality => "values cannot be equal",
             Rule::TooManyLocals => "too many variables",
             Rule::FlowTooLarge => "body is too large",
         }

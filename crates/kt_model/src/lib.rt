@@ -13,5 +13,4 @@ pub mod modified;
 pub mod name_events;
 pub mod status;
 pub mod top_names;
-pub mod typing;
 pub mod uses;

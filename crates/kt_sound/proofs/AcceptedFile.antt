@@ -7,7 +7,7 @@ use Rattle.kt_model.specs.ControlFlow.{body_edges}
 use Rattle.kt_model.specs.FlowRules.{assigned_on, IsFlowViolated, unassigned, val_twice}
 use Rattle.kt_model.specs.NameUses.{Resolved}
 use Rattle.kt_model.specs.Outlines.{outlines_of}
-use Rattle.kt_model.specs.Typing.{signature_of, body_judged}
+use Rattle.kt_typing.specs.Typing.{signature_of, body_judged}
 use Rattle.kt_model.specs.declared.finding.Finding.{Finding}
 use Rattle.kt_model.specs.declared.graph.Variable.TheVariants.{Local}
 use Rattle.kt_model.specs.declared.uses.Owner.TheVariants as owner

@@ -7,17 +7,17 @@ use Rattle.kt_tree.specs.declared.ast.declaration.FunctionBody.{FunctionBody}
 use Rattle.kt_tree.specs.declared.ast.declaration.FunctionBody.TheVariants as written
 use Rattle.kt_tree.specs.declared.ast.declaration.FunctionDecl.{FunctionDecl}
 use Rattle.kt_model.specs.Classes.{Classes}
-use Rattle.kt_model.specs.NameUses.{Resolved, named_at, parameters_at}
+use Rattle.kt_model.specs.NameUses.{Resolved, named_at, parameters_at, declaration_type, function_place}
 use Rattle.kt_model.specs.Bodies.{function_trees, body_trees_of}
 use Rattle.kt_model.specs.BodyTrees.{Tree, Trees, Empty', First', expr_tree, Operation', Name', Paren', Not', And', Or', If', Declare', Local', Assign', Compound', Call', Return', Throw', Shut', number}
 use Rattle.kt_model.specs.ControlFlow.{Node, Edge, Exits, in_of, all_edges, entry_of, entry_node, params_node, end_node, on, outside, in_body, body_edges}
 use Rattle.kt_model.specs.declared.kinds.KtType.{KtType}
 use Rattle.kt_model.specs.declared.kinds.Head.{Head}
 use Rattle.kt_model.specs.declared.kinds.Head.TheVariants as head
-use Rattle.kt_model.specs.declared.typing.Way.{Way}
-use Rattle.kt_model.specs.declared.typing.Way.TheVariants.{Inferred, Checked}
+use Rattle.kt_typing.specs.declared.claims.Way.{Way}
+use Rattle.kt_typing.specs.declared.claims.Way.TheVariants.{Inferred, Checked}
 use Rattle.kt_model.specs.declared.uses.Owner.TheVariants as owner
-use Rattle.kt_model.specs.Typing.{Ways, Each, TypeContext, Signature, Judgements, unit, is_unit, open_signature, signature_of, declaration_type, function_place, context_of, parameter_types, value_way, body_ways, function_ways, body_judged, judged, all_judged}
+use Rattle.kt_typing.specs.Typing.{Ways, Each, TypeContext, Signature, Judgements, unit, is_unit, open_signature, signature_of, context_of, parameter_types, value_way, body_ways, function_ways, body_judged, judged, all_judged}
 use Rattle.kt_model.proofs.ListLemmas.{Has, has_contains}
 use Rattle.kt_mean.specs.declared.states.Value.{Value}
 use Rattle.kt_mean.specs.declared.states.Limit.TheVariants as limit

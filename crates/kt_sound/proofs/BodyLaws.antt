@@ -5,11 +5,11 @@ use Rattle.kt_tree.specs.declared.token.Span.{Span}
 use Rattle.kt_model.specs.BodyTrees.{Operation, Mark, Tree, Trees, Operation', Name', Paren'}
 use Rattle.kt_model.specs.ControlFlow.{FlowContext, Exits, Then, Branch, in_of, out_of, enter, entry_of, if_returns, inside_of, test_edges, leave_edges, edges, all_edges}
 use Rattle.kt_model.specs.declared.kinds.KtType.{KtType}
-use Rattle.kt_model.specs.declared.typing.Way.{Way}
-use Rattle.kt_model.specs.declared.typing.Way.TheVariants.{Unvalued, Plain, Inferred, Checked}
-use Rattle.kt_model.specs.declared.typing.Claim.{Claim}
-use Rattle.kt_model.specs.declared.typing.Claim.TheVariants as claim
-use Rattle.kt_model.specs.Typing.{Each, TypeContext, look_up, no_trees, closed, have_types, count, operation_demand, is_text, first_of, name_claim, inside, judged, all_judged, Judgements}
+use Rattle.kt_typing.specs.declared.claims.Way.{Way}
+use Rattle.kt_typing.specs.declared.claims.Way.TheVariants.{Unvalued, Plain, Inferred, Checked}
+use Rattle.kt_typing.specs.declared.claims.Claim.{Claim}
+use Rattle.kt_typing.specs.declared.claims.Claim.TheVariants as claim
+use Rattle.kt_typing.specs.Typing.{Each, TypeContext, look_up, no_trees, closed, have_types, count, operation_demand, is_text, first_of, name_claim, inside, judged, all_judged, Judgements}
 use Rattle.kt_model.proofs.ListLemmas.{Has}
 use Rattle.kt_mean.specs.declared.states.Value.{Value}
 use Rattle.kt_mean.specs.declared.states.Way.TheVariants.{Return}

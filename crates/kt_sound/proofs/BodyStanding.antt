@@ -6,9 +6,9 @@ use Rattle.kt_model.specs.ControlFlow.{Node, Edge, FlowContext, Exits, Then, Bra
 use Rattle.kt_model.specs.declared.graph.Tag.TheVariants.{In}
 use Rattle.kt_model.specs.declared.graph.Variable.TheVariants.{Local}
 use Rattle.kt_model.specs.declared.kinds.KtType.{KtType}
-use Rattle.kt_model.specs.declared.typing.Way.{Way}
-use Rattle.kt_model.specs.declared.typing.Way.TheVariants.{Unvalued, Plain, Inferred, Checked}
-use Rattle.kt_model.specs.Typing.{TypeContext, LocalTypes, Ways, first_way, rest_ways, look_up, judged, all_judged}
+use Rattle.kt_typing.specs.declared.claims.Way.{Way}
+use Rattle.kt_typing.specs.declared.claims.Way.TheVariants.{Unvalued, Plain, Inferred, Checked}
+use Rattle.kt_typing.specs.Typing.{TypeContext, LocalTypes, Ways, first_way, rest_ways, look_up, judged, all_judged}
 use Rattle.kt_model.proofs.ListLemmas.{Has}
 use Rattle.kt_mean.specs.declared.states.Value.{Value}
 use Rattle.kt_mean.specs.declared.states.Value.TheVariants as value

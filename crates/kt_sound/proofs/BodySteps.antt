@@ -7,8 +7,8 @@ use Rattle.kt_model.specs.NodePaths.{assigned_after}
 use Rattle.kt_model.specs.declared.graph.Variable.{Variable}
 use Rattle.kt_model.specs.declared.graph.Variable.TheVariants.{Local}
 use Rattle.kt_model.specs.declared.kinds.KtType.{KtType}
-use Rattle.kt_model.specs.declared.typing.Way.{Way}
-use Rattle.kt_model.specs.Typing.{TypeContext, LocalTypes, Ways, first_way, rest_ways, look_up, judged, all_judged}
+use Rattle.kt_typing.specs.declared.claims.Way.{Way}
+use Rattle.kt_typing.specs.Typing.{TypeContext, LocalTypes, Ways, first_way, rest_ways, look_up, judged, all_judged}
 use Rattle.kt_model.proofs.ListLemmas.{has_left, has_right}
 use Rattle.kt_mean.specs.declared.states.Value.{Value}
 use Rattle.kt_mean.specs.declared.states.Way.TheVariants.{Return}

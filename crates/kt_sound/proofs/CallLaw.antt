@@ -5,10 +5,10 @@ use Rattle.std.proofs.lemmas.Bool.{leb-true, false≢true}
 use Rattle.kt_model.specs.BodyTrees.{Mark, Tree, Trees, Empty', First', Call'}
 use Rattle.kt_model.specs.ControlFlow.{Node, FlowContext, Exits, Then, out_of, enter, entry_of, if_returns, leave_edges, edges, all_edges, in_body, end_node}
 use Rattle.kt_model.specs.declared.kinds.KtType.{KtType}
-use Rattle.kt_model.specs.declared.typing.Way.{Way}
-use Rattle.kt_model.specs.declared.typing.Way.TheVariants.{Checked}
-use Rattle.kt_model.specs.declared.typing.Claim.TheVariants as claim
-use Rattle.kt_model.specs.Typing.{Ways, Each, TypeContext, LocalTypes, Signature, first_way, rest_ways, no_trees, closed, count, call_demand, unit, judged, all_judged}
+use Rattle.kt_typing.specs.declared.claims.Way.{Way}
+use Rattle.kt_typing.specs.declared.claims.Way.TheVariants.{Checked}
+use Rattle.kt_typing.specs.declared.claims.Claim.TheVariants as claim
+use Rattle.kt_typing.specs.Typing.{Ways, Each, TypeContext, LocalTypes, Signature, first_way, rest_ways, no_trees, closed, count, call_demand, unit, judged, all_judged}
 use Rattle.kt_model.proofs.ListLemmas.{Has}
 use Rattle.kt_mean.specs.declared.states.Value.{Value}
 use Rattle.kt_mean.specs.declared.states.Value.TheVariants as value

@@ -5,15 +5,15 @@ use Rattle.kt_tree.specs.declared.token.Span.{Span}
 use Rattle.kt_tree.specs.declared.ast.part.Arithmetic.TheVariants as arithmetic
 use Rattle.kt_model.specs.Classes.{Classes}
 use Rattle.kt_model.specs.declared.finding.Rule.TheVariants.{Syntax}
-use Rattle.kt_model.specs.declared.typing.Operator.{Operator}
+use Rattle.kt_typing.specs.declared.claims.Operator.{Operator}
 use Rattle.kt_model.specs.BodyTrees.{Operation, Int', Bool', Null', Template', Sign', Sum', Arithmetic', Compare', Equal', BuiltIn', Mark, Trees, Empty', First', Compound'}
 use Rattle.kt_model.specs.ControlFlow.{Exits, in_of, out_of, enter, entry_of, leave_edges, edges, all_edges}
 use Rattle.kt_model.specs.declared.graph.Known.TheVariants as what
 use Rattle.kt_model.specs.declared.kinds.KtType.{KtType}
-use Rattle.kt_model.specs.declared.typing.Way.{Way}
-use Rattle.kt_model.specs.declared.typing.Way.TheVariants.{Checked}
-use Rattle.kt_model.specs.declared.typing.Claim.TheVariants as claim
-use Rattle.kt_model.specs.Typing.{Each, TypeContext, LocalTypes, look_up, in_front, closed, count, is_text, int, unit, is_subtype, stands_if, claimed, finding_in, operator_of, sum_operator, left_way, right_way, kept, kept_claim, name_claim, type_or_none, old_value, compound_claim, judged, all_judged}
+use Rattle.kt_typing.specs.declared.claims.Way.{Way}
+use Rattle.kt_typing.specs.declared.claims.Way.TheVariants.{Checked}
+use Rattle.kt_typing.specs.declared.claims.Claim.TheVariants as claim
+use Rattle.kt_typing.specs.Typing.{Each, TypeContext, LocalTypes, look_up, in_front, closed, count, is_text, int, unit, is_subtype, stands_if, claimed, finding_in, operator_of, sum_operator, left_way, right_way, kept, kept_claim, name_claim, type_or_none, old_value, compound_claim, judged, all_judged}
 use Rattle.kt_model.proofs.ListLemmas.{Has}
 use Rattle.kt_mean.specs.declared.states.Value.{Value}
 use Rattle.kt_mean.specs.declared.states.Value.TheVariants as value

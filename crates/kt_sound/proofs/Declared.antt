@@ -16,11 +16,10 @@ use Rattle.kt_model.specs.declared.uses.Named.TheVariants as named
 use Rattle.kt_model.specs.declared.uses.UseRow.{UseRow}
 use Rattle.kt_model.specs.BuiltIns.{BuiltIn, built_in_functions}
 use Rattle.kt_model.specs.NameEvents.{file_events}
-use Rattle.kt_model.specs.NameUses.{Resolved, named_by, named_if, named_in, named_at}
+use Rattle.kt_model.specs.NameUses.{Resolved, named_by, named_if, named_in, named_at, declaration_type, function_place}
 use Rattle.kt_model.specs.Outlines.{function_result}
 use Rattle.kt_model.specs.Scopes.{IsResolved, is_nothing, built_in_declaration, function_declaration, function_declarations, declaration_by, declarations_of}
 use Rattle.kt_model.specs.TopNames.{Tops, top_names}
-use Rattle.kt_model.specs.Typing.{declaration_type, function_place}
 use Rattle.kt_model.proofs.ListLemmas.{Has, has_either, has_unflat}
 use Rattle.kt_sound.proofs.TypingSteps.{none-some, some-some}
 

@@ -7,9 +7,9 @@ use Rattle.kt_model.specs.ControlFlow.{Node, Exits, Then, in_of, out_of, enter, 
 use Rattle.kt_model.specs.NodePaths.{assigned_after}
 use Rattle.kt_model.specs.declared.graph.Variable.TheVariants.{Local}
 use Rattle.kt_model.specs.declared.kinds.KtType.{KtType}
-use Rattle.kt_model.specs.declared.typing.Way.{Way}
-use Rattle.kt_model.specs.declared.typing.Claim.TheVariants as claim
-use Rattle.kt_model.specs.Typing.{TypeContext, look_up, declared, initialised, no_trees, alone, closed, unit, value_way, known_type, declaration_claim, type_or_none, assign_claim, judged}
+use Rattle.kt_typing.specs.declared.claims.Way.{Way}
+use Rattle.kt_typing.specs.declared.claims.Claim.TheVariants as claim
+use Rattle.kt_typing.specs.Typing.{TypeContext, look_up, declared, initialised, no_trees, alone, closed, unit, value_way, known_type, declaration_claim, type_or_none, assign_claim, judged}
 use Rattle.kt_model.proofs.ListLemmas.{Has}
 use Rattle.kt_mean.specs.declared.states.Value.{Value}
 use Rattle.kt_mean.specs.declared.states.Value.TheVariants as value

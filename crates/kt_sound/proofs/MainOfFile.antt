@@ -10,11 +10,11 @@ use Rattle.kt_tree.specs.declared.ast.declaration.FunctionDecl.{FunctionDecl}
 use Rattle.kt_tree.specs.declared.ast.part.TypeRef.{TypeRef}
 use Rattle.kt_model.specs.DeclarationRules.{is_unit, has_unit_result, has_none, is_main}
 use Rattle.kt_model.specs.NameEvents.{parameter_events, function_events}
-use Rattle.kt_model.specs.NameUses.{Resolved, parameters_at}
+use Rattle.kt_model.specs.NameUses.{Resolved, parameters_at, declaration_type, function_place}
 use Rattle.kt_model.specs.Outlines.{result_by}
 use Rattle.kt_model.specs.Scopes.{IsResolved, declared_count, first_variable, parameters_from}
 use Rattle.kt_model.specs.TopNames.{Tops, top_names, head_named}
-use Rattle.kt_model.specs.Typing.{unit, open_signature, signature_of, declaration_type, function_place}
+use Rattle.kt_typing.specs.Typing.{unit, open_signature, signature_of}
 use Rattle.kt_model.specs.declared.kinds.Head.{Head}
 use Rattle.kt_model.specs.declared.kinds.Head.TheVariants as head
 use Rattle.kt_model.specs.declared.kinds.KtType.{KtType}

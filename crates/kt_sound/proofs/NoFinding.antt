@@ -8,12 +8,12 @@ use Rattle.kt_model.specs.Classes.{Classes}
 use Rattle.kt_model.specs.BuiltIns.{built_in_named}
 use Rattle.kt_model.specs.declared.kinds.KtType.{KtType}
 use Rattle.kt_model.specs.declared.finding.Rule.TheVariants.{Syntax}
-use Rattle.kt_model.specs.declared.typing.Way.{Way}
-use Rattle.kt_model.specs.declared.typing.Way.TheVariants.{Unvalued, Plain, Inferred, Checked}
-use Rattle.kt_model.specs.declared.typing.Claim.{Claim}
-use Rattle.kt_model.specs.declared.typing.Claim.TheVariants.{Gives, Breaks, Lacks}
-use Rattle.kt_model.specs.declared.typing.Operator.{Operator}
-use Rattle.kt_model.specs.Typing.{Ways, Each, first_way, rest_ways, Signature, built_in_signature, TypeContext, LocalTypes, look_up, declared, initialised, Judgement, Judgements, alone, no_trees, in_front, is_subtype, stands_if, settled, claimed, outcome, type_in, finding_in, have_types, closed, not_open, count, demand_if, unit, operator_of, sum_operator, operator_demand, call_if, call_demand, operation_demand, is_text, first_of, name_claim, value_way, known_type, declaration_claim, type_or_none, assign_claim, old_value, kept, compound_claim, left_way, right_way, inside, judged, all_judged}
+use Rattle.kt_typing.specs.declared.claims.Way.{Way}
+use Rattle.kt_typing.specs.declared.claims.Way.TheVariants.{Unvalued, Plain, Inferred, Checked}
+use Rattle.kt_typing.specs.declared.claims.Claim.{Claim}
+use Rattle.kt_typing.specs.declared.claims.Claim.TheVariants.{Gives, Breaks, Lacks}
+use Rattle.kt_typing.specs.declared.claims.Operator.{Operator}
+use Rattle.kt_typing.specs.Typing.{Ways, Each, first_way, rest_ways, Signature, built_in_signature, TypeContext, LocalTypes, look_up, declared, initialised, Judgement, Judgements, alone, no_trees, in_front, is_subtype, stands_if, settled, claimed, outcome, type_in, finding_in, have_types, closed, not_open, count, demand_if, unit, operator_of, sum_operator, operator_demand, call_if, call_demand, operation_demand, is_text, first_of, name_claim, value_way, known_type, declaration_claim, type_or_none, assign_claim, old_value, kept, compound_claim, left_way, right_way, inside, judged, all_judged}
 use Rattle.kt_sound.proofs.TypingSteps.{none_in, Known, known_declared, known_initialised}
 
 pub some_finding : {A : Type 0} (x : A) → x ∷ [] ≡ [] → ⊥

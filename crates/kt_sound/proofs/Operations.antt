@@ -9,10 +9,10 @@ use Rattle.kt_model.specs.Classes.{Classes}
 use Rattle.kt_model.specs.BuiltIns.{built_in_named}
 use Rattle.kt_model.specs.declared.kinds.KtType.{KtType}
 use Rattle.kt_model.specs.declared.finding.Rule.{Rule}
-use Rattle.kt_model.specs.declared.typing.Way.{Way}
-use Rattle.kt_model.specs.declared.typing.Way.TheVariants.{Unvalued, Plain, Inferred, Checked}
-use Rattle.kt_model.specs.declared.typing.Claim.TheVariants as claim
-use Rattle.kt_model.specs.Typing.{Ways, Each, Then, Signature, built_in_signature, TypeContext, LocalTypes, count, demand_if, call_if, call_demand, operation_demand, is_text, first_of, int, unit, all_judged}
+use Rattle.kt_typing.specs.declared.claims.Way.{Way}
+use Rattle.kt_typing.specs.declared.claims.Way.TheVariants.{Unvalued, Plain, Inferred, Checked}
+use Rattle.kt_typing.specs.declared.claims.Claim.TheVariants as claim
+use Rattle.kt_typing.specs.Typing.{Ways, Each, Then, Signature, built_in_signature, TypeContext, LocalTypes, count, demand_if, call_if, call_demand, operation_demand, is_text, first_of, int, unit, all_judged}
 use Rattle.kt_mean.specs.declared.states.Value.{Value}
 use Rattle.kt_mean.specs.declared.states.Value.TheVariants as value
 use Rattle.kt_mean.specs.Frames.{State, Gave, Run, pure}

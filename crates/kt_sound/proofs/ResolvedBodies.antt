@@ -7,12 +7,12 @@ use Rattle.kt_tree.specs.declared.ast.declaration.FunctionDecl.{FunctionDecl}
 use Rattle.kt_model.specs.BodyTrees.{BuiltIn', Tree, Operation', Call'}
 use Rattle.kt_model.specs.Bodies.{function_trees}
 use Rattle.kt_model.specs.Classes.{Classes}
-use Rattle.kt_model.specs.NameUses.{Resolved, named_at, parameters_at}
+use Rattle.kt_model.specs.NameUses.{Resolved, named_at, parameters_at, declaration_type, function_place}
 use Rattle.kt_model.specs.Outlines.{function_result}
 use Rattle.kt_model.specs.Scopes.{IsResolved, is_nothing}
 use Rattle.kt_model.specs.TopNames.{top_names}
 use Rattle.kt_model.specs.TreesWithin.{all_trees_in, called_by, returns_at}
-use Rattle.kt_model.specs.Typing.{context_of, declaration_type, function_place, signature_of, owner_ways, parameter_types, body_judged}
+use Rattle.kt_typing.specs.Typing.{context_of, signature_of, owner_ways, parameter_types, body_judged}
 use Rattle.kt_model.specs.declared.uses.Owner.TheVariants as owner
 use Rattle.kt_mean.specs.Evaluation.{Function, Program}
 use Rattle.kt_mean.specs.Programs.{function_of, function_at}

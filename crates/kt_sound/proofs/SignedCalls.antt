@@ -4,9 +4,9 @@ use Rattle.std.specs.List.{All}
 use Rattle.std.proofs.lemmas.List.Elements.{All-nil, All-cons, All-append}
 use Rattle.kt_model.specs.BodyTrees.{Mark, Tree, Trees, Empty', First', Operation', Name', Paren', Not', And', Or', If', Declare', Local', Assign', Compound', Call', Return', Throw', Shut'}
 use Rattle.kt_model.specs.TreesWithin.{trees_in, all_trees_in, called_by}
-use Rattle.kt_model.specs.declared.typing.Way.{Way}
-use Rattle.kt_model.specs.declared.typing.Way.TheVariants.{Inferred}
-use Rattle.kt_model.specs.Typing.{Ways, Each, first_way, rest_ways, TypeContext, LocalTypes, Signature, alone, in_front, initialised, look_up, count, call_demand, operation_demand, operator_of, is_text, first_of, declaration_claim, assign_claim, compound_claim, old_value, value_way, known_type, type_or_none, left_way, right_way, inside, claimed, finding_in, parameter_types, declared, judged, all_judged}
+use Rattle.kt_typing.specs.declared.claims.Way.{Way}
+use Rattle.kt_typing.specs.declared.claims.Way.TheVariants.{Inferred}
+use Rattle.kt_typing.specs.Typing.{Ways, Each, first_way, rest_ways, TypeContext, LocalTypes, Signature, alone, in_front, initialised, look_up, count, call_demand, operation_demand, operator_of, is_text, first_of, declaration_claim, assign_claim, compound_claim, old_value, value_way, known_type, type_or_none, left_way, right_way, inside, claimed, finding_in, parameter_types, declared, judged, all_judged}
 use Rattle.kt_sound.proofs.TypingSteps.{none_in, some-some, none-some, Known, known_declared}
 use Rattle.kt_sound.proofs.NoFinding.{some_finding, not_open_none, parts_none, claim_none, typed_tree, typed_trees}
 

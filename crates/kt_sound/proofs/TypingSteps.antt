@@ -3,9 +3,9 @@ use Rattle.std.proofs.Common.{◌≡◌, ℕ, nat_eq, cond, Bool, true, false, O
 use Rattle.std.proofs.lemmas.Bool.{eqb-true, eq-eqb}
 use Rattle.kt_model.specs.BodyTrees.{Operation, Mark, Tree, Trees, Empty', First', Operation', Name', Paren', Not', And', Or', If', Declare', Local', Assign', Compound', Call', Return', Throw', Shut'}
 use Rattle.kt_model.specs.declared.kinds.KtType.{KtType}
-use Rattle.kt_model.specs.declared.typing.Way.{Way}
-use Rattle.kt_model.specs.declared.typing.Way.TheVariants.{Inferred}
-use Rattle.kt_model.specs.Typing.{Ways, Each, first_way, rest_ways, TypeContext, LocalTypes, look_up, bound_unless, bound, declared, initialised, count, operator_of, call_demand, operation_demand, is_text, first_of, value_way, known_type, type_or_none, right_way, inside, judged, all_judged}
+use Rattle.kt_typing.specs.declared.claims.Way.{Way}
+use Rattle.kt_typing.specs.declared.claims.Way.TheVariants.{Inferred}
+use Rattle.kt_typing.specs.Typing.{Ways, Each, first_way, rest_ways, TypeContext, LocalTypes, look_up, bound_unless, bound, declared, initialised, count, operator_of, call_demand, operation_demand, is_text, first_of, value_way, known_type, type_or_none, right_way, inside, judged, all_judged}
 
 -- ---- lists and options
 

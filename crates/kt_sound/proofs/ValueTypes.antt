@@ -7,7 +7,7 @@ use Rattle.kt_model.specs.Subtypes.{class_of, is_under}
 use Rattle.kt_model.specs.declared.kinds.KtType.{KtType}
 use Rattle.kt_model.specs.declared.kinds.Head.{Head}
 use Rattle.kt_model.specs.declared.kinds.Head.TheVariants as head
-use Rattle.kt_model.specs.Typing.{is_head_under, is_subtype, is_string, is_text, int}
+use Rattle.kt_typing.specs.Typing.{is_head_under, is_subtype, is_string, is_text, int}
 use Rattle.kt_model.proofs.ListLemmas.{Has, has_of_any, has_first, no_more}
 use Rattle.kt_mean.specs.declared.states.Value.{Value}
 use Rattle.kt_mean.specs.declared.states.Value.TheVariants as value

@@ -5,7 +5,7 @@ use Rattle.kt_model.specs.Classes.{Classes, supers_of}
 use Rattle.kt_model.specs.NameUses.{Resolved}
 use Rattle.kt_model.specs.BodyTrees.{Tree}
 use Rattle.kt_model.specs.ControlFlow.{body_edges}
-use Rattle.kt_model.specs.Typing.{signature_of, body_judged}
+use Rattle.kt_typing.specs.Typing.{signature_of, body_judged}
 use Rattle.kt_model.specs.declared.uses.Owner.TheVariants as owner
 use Rattle.kt_mean.specs.Frames.{NotWrong}
 use Rattle.kt_mean.specs.Evaluation.{Function, Program}

@@ -5,7 +5,7 @@ use Rattle.kt_model.specs.Classes.{Classes, written}
 use Rattle.kt_model.specs.Outlines.{outlines_of}
 use Rattle.kt_model.specs.NameUses.{Resolved}
 use Rattle.kt_model.specs.Scopes.{IsResolved}
-use Rattle.kt_model.specs.Typing.{IsTypingFinding}
+use Rattle.kt_typing.specs.Typing.{IsTypingFinding}
 use Rattle.kt_model.specs.FlowRules.{IsFlowViolated, SettlesEntered}
 use Rattle.kt_model.specs.Bodies.{owner_parameters, owner_trees}
 use Rattle.kt_model.specs.declared.finding.Finding.{Finding}

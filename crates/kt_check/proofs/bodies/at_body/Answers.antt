@@ -1,7 +1,7 @@
 use Rattle.std.proofs.Common.{subst}
 use Rattle.kt_model.specs.Classes.{Outlines, written}
 use Rattle.kt_model.specs.Findings.{AreFindings}
-use Rattle.kt_model.specs.Typing.{IsTypingFinding}
+use Rattle.kt_typing.specs.Typing.{IsTypingFinding}
 use Rattle.kt_model.specs.declared.uses.Owner.TheVariants as owner
 use Rattle.kt_check.proofs.BodyFindings.{both_added}
 use Rattle.kt_check.proofs.bodies.at_body.Goals as goal

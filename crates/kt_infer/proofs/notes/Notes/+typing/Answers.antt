@@ -3,9 +3,9 @@ use Rattle.std.proofs.lemmas.List.{drop_all}
 use Rattle.kt_tree.specs.declared.ast.body.ExprKind.TheVariants as e
 use Rattle.kt_model.specs.NameUses.{named_at}
 use Rattle.kt_model.specs.BodyTrees.{whole, named_there, shut, expr_tree, piece, seen, seen_trees, inserted_of, texts_of, call_tree, Int', Bool', Null', Template', Sum', Arithmetic', Compare', Equal', Empty'}
-use Rattle.kt_model.specs.Typing.{int, left_way, right_way, judged, all_judged, Each}
-use Rattle.kt_model.specs.declared.typing.Claim.TheVariants.{Gives, Breaks}
-use Rattle.kt_model.specs.declared.typing.Way.TheVariants.{Inferred, Checked}
+use Rattle.kt_typing.specs.Typing.{int, left_way, right_way, judged, all_judged, Each}
+use Rattle.kt_typing.specs.declared.claims.Claim.TheVariants.{Gives, Breaks}
+use Rattle.kt_typing.specs.declared.claims.Way.TheVariants.{Inferred, Checked}
 use Rattle.kt_model.specs.declared.finding.Rule.TheVariants.{Syntax}
 use Rattle.kt_model.proofs.BodyFolds.{tree_of_kind, kind_int, kind_bool, kind_null, kind_name, kind_template, kind_paren, kind_call, kind_call_with, kind_sign, kind_sum, kind_arithmetic, kind_compare, kind_equal, kind_not, kind_and, kind_or, kind_if_any, kind_throw, kind_other, piece_text, piece_inserted}
 use Rattle.kt_infer.specs.Noting.{typing_of}

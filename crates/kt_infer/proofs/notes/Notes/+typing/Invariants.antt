@@ -1,8 +1,8 @@
 use Rattle.std.proofs.Common.{◌≡◌, map, drop}
 use Rattle.kt_model.specs.NameUses.{named_at}
 use Rattle.kt_model.specs.BodyTrees.{seen, seen_trees, piece, inserted_of}
-use Rattle.kt_model.specs.Typing.{Each, all_judged}
-use Rattle.kt_model.specs.declared.typing.Way.TheVariants.{Inferred}
+use Rattle.kt_typing.specs.Typing.{Each, all_judged}
+use Rattle.kt_typing.specs.declared.claims.Way.TheVariants.{Inferred}
 use Rattle.kt_infer.specs.Noting.{Continues, typing_of}
 use Rattle.kt_infer.proofs.notes.Notes.+typing.Given as goal
 

@@ -1,6 +1,6 @@
 use Rattle.std.proofs.Common.{refl, sym, ap, ◌∙◌, nat_eq, None}
 use Rattle.indexmap.proofs.CallerLemmas.{insert_entry-new}
-use Rattle.kt_model.specs.Typing.{bound_unless}
+use Rattle.kt_typing.specs.Typing.{bound_unless}
 use Rattle.kt_infer.proofs.notes.Notes.bind.Goals as goal
 
 pub returns-in_ok-insert-in-None : goal.returns-in_ok-insert-in-None

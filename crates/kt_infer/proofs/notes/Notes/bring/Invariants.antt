@@ -1,5 +1,5 @@
 use Rattle.std.proofs.Common.{◌≡◌, drop}
-use Rattle.kt_model.specs.Typing.{parameter_types}
+use Rattle.kt_typing.specs.Typing.{parameter_types}
 use Rattle.kt_infer.specs.Noting.{typing_of}
 use Rattle.kt_infer.proofs.notes.Notes.bring.Given as goal
 

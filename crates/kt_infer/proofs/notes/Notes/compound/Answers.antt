@@ -1,7 +1,7 @@
 use Rattle.std.proofs.Common.{ap, sym, refl, ◌∙◌, ◌&&◌, is_some, option_map, Some}
 use Rattle.kt_model.specs.NameUses.{named_at}
 use Rattle.kt_model.specs.BodyTrees.{named_there, seen, seen_optional}
-use Rattle.kt_model.specs.Typing.{look_up, type_or_none, is_text, left_way, right_way, operator_of, count, compound_claim, old_value, Each, all_judged}
+use Rattle.kt_typing.specs.Typing.{look_up, type_or_none, is_text, left_way, right_way, operator_of, count, compound_claim, old_value, Each, all_judged}
 use Rattle.kt_infer.specs.Noting.{typing_of}
 use Rattle.kt_infer.proofs.Passing.{opened_if, opens_compound, few, same_old, same_ways}
 use Rattle.kt_infer.proofs.notes.Notes.compound.Goals as goal

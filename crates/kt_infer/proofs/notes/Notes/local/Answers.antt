@@ -1,8 +1,8 @@
 use Rattle.std.proofs.Common.{ap, sym, refl, ◌∙◌, option_map}
 use Rattle.kt_model.specs.declared.uses.Named.TheVariants as named
-use Rattle.kt_model.specs.NameUses.{named_at}
+use Rattle.kt_model.specs.NameUses.{named_at, declaration_type}
 use Rattle.kt_model.specs.BodyTrees.{local_tree, named_there, seen, expr_tree}
-use Rattle.kt_model.specs.Typing.{look_up, known_type, value_way, declared, initialised, declaration_claim, declaration_type}
+use Rattle.kt_typing.specs.Typing.{look_up, known_type, value_way, declared, initialised, declaration_claim}
 use Rattle.kt_infer.specs.Noting.{typing_of}
 use Rattle.kt_infer.proofs.Passing.{same_tree, same_keeps, judges_in, opened_if, opens_declare, opens_local, opens_shut}
 use Rattle.kt_infer.proofs.OtherNames.{no_local}

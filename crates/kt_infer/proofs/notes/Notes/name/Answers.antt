@@ -1,5 +1,5 @@
 use Rattle.std.proofs.Common.{sym, ap, ◌∙◌}
-use Rattle.kt_model.specs.Typing.{name_claim}
+use Rattle.kt_typing.specs.Typing.{name_claim}
 use Rattle.kt_model.specs.BodyTrees.{name_tree, whole}
 use Rattle.kt_infer.specs.Noting.{typing_of}
 use Rattle.kt_infer.proofs.Passing.{same_tree, opens_name, opens_shut}

@@ -1,7 +1,7 @@
 use Rattle.std.proofs.Common.{ap, option_map}
 use Rattle.kt_model.specs.NameUses.{named_at}
 use Rattle.kt_model.specs.BodyTrees.{seen, seen_optional, expr_tree}
-use Rattle.kt_model.specs.Typing.{Each, all_judged}
+use Rattle.kt_typing.specs.Typing.{Each, all_judged}
 use Rattle.kt_infer.specs.Noting.{typing_of}
 use Rattle.kt_infer.proofs.Passing.{same_judgements, same_complete_of, one, nothing}
 use Rattle.kt_infer.proofs.notes.Notes.operand.Goals as goal

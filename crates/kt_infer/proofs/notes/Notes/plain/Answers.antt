@@ -1,7 +1,7 @@
 use Rattle.std.proofs.Common.{ap, ◌∙◌, option_map, None}
 use Rattle.kt_model.specs.NameUses.{named_at}
 use Rattle.kt_model.specs.BodyTrees.{assigned_tree, named_there, seen, expr_tree}
-use Rattle.kt_model.specs.Typing.{look_up, value_way, type_or_none, assign_claim}
+use Rattle.kt_typing.specs.Typing.{look_up, value_way, type_or_none, assign_claim}
 use Rattle.kt_infer.specs.Noting.{typing_of}
 use Rattle.kt_infer.proofs.Passing.{same_tree, judges_in, opened_if, opens_assign, opens_shut}
 use Rattle.kt_infer.proofs.notes.Notes.plain.Goals as goal

@@ -2,7 +2,7 @@ use Rattle.std.proofs.Common.{ap, ◌+◌, map, drop, arith}
 use Rattle.std.proofs.lemmas.List.{drop_all}
 use Rattle.kt_model.specs.NameUses.{named_at}
 use Rattle.kt_model.specs.BodyTrees.{stmt_tree, listed}
-use Rattle.kt_model.specs.Typing.{Each, all_judged}
+use Rattle.kt_typing.specs.Typing.{Each, all_judged}
 use Rattle.kt_infer.specs.Noting.{typing_of}
 use Rattle.kt_infer.proofs.Passing.{step, finish_trees, stmts_more}
 use Rattle.kt_infer.proofs.notes.Notes.statements.Goals as goal

@@ -1,7 +1,7 @@
 use Rattle.std.proofs.Common.{map, drop}
 use Rattle.kt_model.specs.NameUses.{named_at}
 use Rattle.kt_model.specs.BodyTrees.{stmt_tree, listed}
-use Rattle.kt_model.specs.Typing.{Each, all_judged}
+use Rattle.kt_typing.specs.Typing.{Each, all_judged}
 use Rattle.kt_infer.specs.Noting.{Continues, typing_of}
 use Rattle.kt_infer.proofs.notes.Notes.statements.Given as goal
 

@@ -3,8 +3,8 @@ use Rattle.std.specs.Option.{option_copied}
 use Rattle.kt_model.specs.NameUses.{named_at}
 use Rattle.kt_model.specs.BodyTrees.{expr_tree, stmt_tree, listed}
 use Rattle.kt_model.specs.Bodies.{body_trees_of, written_trees}
-use Rattle.kt_model.specs.Typing.{Each, all_judged, body_ways, written_ways, value_way}
-use Rattle.kt_model.specs.declared.typing.Way.TheVariants.{Unvalued}
+use Rattle.kt_typing.specs.Typing.{Each, all_judged, body_ways, written_ways, value_way}
+use Rattle.kt_typing.specs.declared.claims.Way.TheVariants.{Unvalued}
 use Rattle.kt_model.proofs.BodyFolds.{block_list}
 use Rattle.kt_infer.specs.Noting.{typing_of}
 use Rattle.kt_infer.proofs.Passing.{same_judgements, same_complete_of, judges_in, one, nothing}

@@ -3,9 +3,9 @@
 -- From the Kotlin specification, "Type system", "Expressions", "Statements" and "Local type inference": an operand or an argument must have a type
 -- under the one that is asked for; a local takes its written type, else that of its initialiser. The ways in which a tree is typed, the codes and the
 -- spans are this project's own. Each form has one definition: what it asks of its parts, and what it is where they have types. Forms that are not
--- open yet are refused as no part of the language, which no file that is parsed can have. The code types the left operand of a sum once, where the
--- definition types it twice, and keeps the types of locals in a table.
-use Rattle.std.specs.Prelude.{ℕ, suc, ◌+◌, ◌==◌, ◌&&◌, ◌||◌, nat_eq, nat_le, Bool, true, false, not, List, [], ◌∷◌, ◌++◌, length, Option, Some, None, slice_get, option_and_then, option_map, Contains, if◌then◌else◌}
+-- open yet are refused as no part of the language, which no file that is parsed can have; an `if` is open where its value is not taken. The code types
+-- each operand once, where the definition types those of a sum and of an equality anew for each question, and keeps the types of locals in a table.
+use Rattle.std.specs.Prelude.{ℕ, zero, suc, ◌==◌, ◌&&◌, ◌||◌, nat_eq, nat_le, Bool, true, false, not, List, [], ◌∷◌, ◌++◌, Option, Some, None, slice_get, option_map, Contains, if◌then◌else◌}
 use Rattle.std.specs.Map.{lookup}
 use Rattle.kt_tree.specs.declared.token.Span.{Span}
 use Rattle.kt_tree.specs.declared.ast.part.Arithmetic.TheVariants.{Subtract, Multiply}
@@ -15,24 +15,23 @@ use Rattle.kt_tree.specs.declared.ast.declaration.FunctionBody.{FunctionBody}
 use Rattle.kt_tree.specs.declared.ast.declaration.FunctionBody.TheVariants as written
 use Rattle.kt_model.specs.Classes.{Classes}
 use Rattle.kt_model.specs.Subtypes.{class_of, is_under}
-use Rattle.kt_model.specs.BuiltIns.{BuiltIn, built_in_functions, built_in_named}
-use Rattle.kt_model.specs.NameUses.{Resolved, parameters_at}
+use Rattle.kt_model.specs.BuiltIns.{BuiltIn, built_in_named}
+use Rattle.kt_model.specs.NameUses.{Resolved, parameters_at, declaration_type, function_place}
 use Rattle.kt_model.specs.Bodies.{owner_parameters, owner_trees}
-use Rattle.kt_model.specs.BodyTrees.{Tree, Trees, Operation', Name', Paren', Not', And', Or', If', Declare', Local', Assign', Compound', Call', Return', Throw', Shut', Empty', First', Mark, Operation, Int', Sign', Sum', Arithmetic', BuiltIn'}
+use Rattle.kt_model.specs.BodyTrees.{Tree, Trees, Operation', Name', Paren', Not', And', Or', If', Declare', Local', Assign', Compound', Call', Return', Throw', Shut', Empty', First', Mark, Operation, Int', Bool', Sign', Sum', Arithmetic', Compare', Equal', BuiltIn'}
 use Rattle.kt_model.specs.declared.kinds.KtType.{KtType}
 use Rattle.kt_model.specs.declared.kinds.Head.{Head}
-use Rattle.kt_model.specs.declared.kinds.Head.TheVariants.{Any, Unit as UnitHead, Int, Str}
+use Rattle.kt_model.specs.declared.kinds.Head.TheVariants.{Nothing, Unit as UnitHead, Boolean, Int, Str}
 use Rattle.kt_model.specs.declared.finding.Finding.{Finding}
-use Rattle.kt_model.specs.declared.finding.Rule.{Rule}
-use Rattle.kt_model.specs.declared.finding.Rule.TheVariants.{Syntax, UnknownName, Mismatch, ArgumentCount}
-use Rattle.kt_model.specs.declared.typing.Way.{Way}
-use Rattle.kt_model.specs.declared.typing.Way.TheVariants.{Unvalued, Plain, Inferred, Checked}
-use Rattle.kt_model.specs.declared.typing.Claim.{Claim}
-use Rattle.kt_model.specs.declared.typing.Claim.TheVariants.{Gives, Breaks, Lacks}
-use Rattle.kt_model.specs.declared.typing.Outcome.{Outcome}
-use Rattle.kt_model.specs.declared.typing.Outcome.TheVariants.{Stands, Refused, Untyped}
-use Rattle.kt_model.specs.declared.typing.Operator.{Operator}
-use Rattle.kt_model.specs.declared.typing.TypeRow.{TypeRow}
+use Rattle.kt_model.specs.declared.finding.Rule.TheVariants.{Syntax, UnknownName, Mismatch, ArgumentCount, Equality}
+use Rattle.kt_typing.specs.declared.claims.Way.{Way}
+use Rattle.kt_typing.specs.declared.claims.Way.TheVariants.{Unvalued, Plain, Inferred, Checked}
+use Rattle.kt_typing.specs.declared.claims.Claim.{Claim}
+use Rattle.kt_typing.specs.declared.claims.Claim.TheVariants.{Gives, Breaks, Lacks}
+use Rattle.kt_typing.specs.declared.claims.Outcome.{Outcome}
+use Rattle.kt_typing.specs.declared.claims.Outcome.TheVariants.{Stands, Refused, Untyped}
+use Rattle.kt_typing.specs.declared.claims.Operator.{Operator}
+use Rattle.kt_typing.specs.declared.claims.TypeRow.{TypeRow}
 use Rattle.kt_model.specs.declared.uses.Owner.{Owner}
 use Rattle.kt_model.specs.declared.uses.Owner.TheVariants as owner
 
@@ -48,8 +47,14 @@ int = sure Int
 abbrev pub string : KtType
 string = sure Str
 
+abbrev pub boolean : KtType
+boolean = sure Boolean
+
 abbrev pub unit : KtType
 unit = sure UnitHead
+
+abbrev pub nothing : KtType
+nothing = sure Nothing
 
 -- the first head is `Nothing`, or its class is under the other's
 abbrev pub is_head_under : Classes → Option ℕ → Option ℕ → Bool
@@ -88,11 +93,12 @@ built_in_signature b = record { least = b.least; most = b.most; ways = Each (Che
 
 -- ---- what typing looks at
 
--- the written types of the locals and parameters, and what the calls of each function of the file need
+-- the written types of the locals and parameters, what the calls of each function of the file need, and the written result of the function whose body it is
 pub record TypeContext : Type 0 where
   pub classes : Classes
   pub written : ℕ → Option KtType
   pub signature : ℕ → Option Signature
+  pub result : Option KtType
 
 -- The types of the locals that were declared, in the order of evaluation; None where an initialiser has no type.
 abbrev pub LocalTypes : Type 0
@@ -234,12 +240,20 @@ abbrev pub call_demand : Option Signature → Mark → ℕ → Demand
 call_demand None n k = shut n
 call_demand (Some s) n k = call_if (nat_le s.least k && nat_le k s.most) s n
 
--- a tree that works on the values of so many parts, the first of which may be a text
-abbrev pub operation_demand : Mark → Operation → Bool → ℕ → Demand
-operation_demand n (Int' i) text k = demand_if (k == 0) n (Each Inferred) int
-operation_demand n (Sign' sign) text k = demand_if (k == 1) n (Each (Checked int)) int
-operation_demand n (BuiltIn' name returns) text k = call_demand (option_map built_in_signature (built_in_named name)) n k
-operation_demand n o text k = operator_demand (operator_of o text) n k
+-- an equality that has two operands, whose types may be apart
+abbrev pub equality_demand : Bool → Demand → Mark → Demand
+equality_demand true demand n = record { ways = Each Plain; claim = Breaks Equality n.span }
+equality_demand false demand n = demand
+
+-- A tree that works on the values of so many parts: the first may be a text, the types of two may be apart.
+abbrev pub operation_demand : Mark → Operation → (text apart : Bool) → ℕ → Demand
+operation_demand n (Int' i) text apart k = demand_if (k == 0) n (Each Inferred) int
+operation_demand n (Bool' b) text apart k = demand_if (k == 0) n (Each Inferred) boolean
+operation_demand n (Sign' sign) text apart k = demand_if (k == 1) n (Each (Checked int)) int
+operation_demand n (Compare' o) text apart k = demand_if (k == 2) n (Each (Checked int)) boolean
+operation_demand n (Equal' o) text apart k = equality_demand apart (demand_if (k == 2) n (Each Plain) boolean) n
+operation_demand n (BuiltIn' name returns) text apart k = call_demand (option_map built_in_signature (built_in_named name)) n k
+operation_demand n o text apart k = operator_demand (operator_of o text) n k
 
 abbrev pub is_string : Head → Bool
 is_string Str = true
@@ -252,6 +266,21 @@ is_text (Some t) = is_string t.head
 abbrev pub first_of : List (Option KtType) → Option KtType
 first_of [] = None
 first_of (t ∷ ts) = t
+
+-- `Int`, `Boolean` and `String`: no value is of two of them
+abbrev pub are_apart : Head → Head → Bool
+are_apart Int Boolean = true
+are_apart Int Str = true
+are_apart Boolean Int = true
+are_apart Boolean Str = true
+are_apart Str Int = true
+are_apart Str Boolean = true
+are_apart a b = false
+
+-- two operands whose declared types are apart, whatever their `?`
+abbrev pub apart : List (Option KtType) → Bool
+apart (Some a ∷ Some b ∷ []) = are_apart a.head b.head
+apart _ = false
 
 -- ---- names
 
@@ -328,6 +357,40 @@ inside way = way
 abbrev pub enclosed : Mark → Judgement → Judgement
 enclosed n e = record e { rows = e.rows ++ record { tree = n.number; found = e.found } ∷ [] }
 
+-- ---- branches and returns
+
+-- Of the statements of a branch the last alone counts as a part.
+abbrev pub last_of : List (Option KtType) → List (Option KtType)
+last_of [] = []
+last_of (t ∷ []) = t ∷ []
+last_of (t ∷ u ∷ ts) = last_of (u ∷ ts)
+
+-- a condition, and the statements of two branches behind it
+abbrev pub branched : Judgement → Judgements → Judgements → Judgements
+branched c a b =
+    record { each_found = c.found ∷ (last_of a.each_found ++ last_of b.each_found); rows = c.rows ++ (a.rows ++ b.rows); findings = c.findings ++ (a.findings ++ b.findings); locals = b.locals }
+
+abbrev pub is_unit : KtType → Bool
+is_unit t = is_unit_head t.head && not t.nullable
+  where
+    is_unit_head : Head → Bool
+    is_unit_head UnitHead = true
+    is_unit_head _ = false
+
+abbrev pub unit_if : Bool → Mark → Claim
+unit_if true n = Gives nothing
+unit_if false n = Breaks Mismatch n.span
+
+-- A `return` without a value stands where the result is `Unit`.
+abbrev pub bare_return : Option KtType → Mark → Claim
+bare_return None n = Gives nothing
+bare_return (Some t) n = unit_if (is_unit t) n
+
+abbrev pub return_claim : Option KtType → Mark → ℕ → Claim
+return_claim result n zero = bare_return result n
+return_claim result n (suc zero) = Gives nothing
+return_claim result n (suc (suc k)) = Breaks Syntax n.span
+
 -- ---- what is not open
 
 abbrev pub not_open : TypeContext → Way → Mark → LocalTypes → Judgement
@@ -339,7 +402,7 @@ unfoldable mutual
   pub judged : TypeContext → Way → LocalTypes → Tree → Judgement
   judged cx way locals (Operation' n o parts) =
       let text = is_text (first_of (all_judged cx (Each Inferred) locals parts).each_found) in
-      let demand = operation_demand n o text (count parts) in
+      let demand = operation_demand n o text (apart (all_judged cx (Each Plain) locals parts).each_found) (count parts) in
       closed cx way n (all_judged cx demand.ways locals parts) demand.claim
   judged cx way locals (Name' n at x) = closed cx way n (no_trees locals) (name_claim n.word (look_up locals x))
   judged cx way locals (Paren' n e) = enclosed n (judged cx (inside way) locals e)
@@ -360,12 +423,22 @@ unfoldable mutual
   judged cx way locals (Call' n f returns arguments) =
       let demand = call_demand (cx.signature f) n (count arguments) in
       closed cx way n (all_judged cx demand.ways locals arguments) demand.claim
+  judged cx way locals (Not' n e) = closed cx way n (alone (judged cx (Checked boolean) locals e)) (Gives boolean)
+  judged cx way locals (And' n a b) =
+      let left = judged cx (Checked boolean) locals a in
+      closed cx way n (in_front left (alone (judged cx (Checked boolean) left.locals b))) (Gives boolean)
+  judged cx way locals (Or' n a b) =
+      let left = judged cx (Checked boolean) locals a in
+      closed cx way n (in_front left (alone (judged cx (Checked boolean) left.locals b))) (Gives boolean)
+  judged cx Unvalued locals (If' n c a b) =
+      let condition = judged cx (Checked boolean) locals c in
+      let first = all_judged cx (Each Unvalued) condition.locals a in
+      let second = all_judged cx (Each Unvalued) first.locals b in
+      closed cx Unvalued n (branched condition first second) (Gives unit)
+  judged cx way locals (Return' n value) =
+      closed cx way n (all_judged cx (Each (value_way cx.result)) locals value) (return_claim cx.result n (count value))
   -- the forms that are not open
-  judged cx way locals (Not' n e) = not_open cx way n locals
-  judged cx way locals (And' n a b) = not_open cx way n locals
-  judged cx way locals (Or' n a b) = not_open cx way n locals
   judged cx way locals (If' n c a b) = not_open cx way n locals
-  judged cx way locals (Return' n value) = not_open cx way n locals
   judged cx way locals (Throw' n e) = not_open cx way n locals
   judged cx way locals (Shut' n) = not_open cx way n locals
 
@@ -376,20 +449,6 @@ unfoldable mutual
 
 -- ---- a body
 
-abbrev pub declaration_type : Resolved → ℕ → Option KtType
-declaration_type resolved x = option_and_then (λ d. d.written) (slice_get resolved.declared x)
-
--- the declaration of a function of the file: they stand behind the built-in ones
-abbrev pub function_place : ℕ → ℕ
-function_place f = length built_in_functions + f
-
-abbrev pub is_unit : KtType → Bool
-is_unit t = is_unit_head t.head && not t.nullable
-  where
-    is_unit_head : Head → Bool
-    is_unit_head UnitHead = true
-    is_unit_head _ = false
-
 -- Until parameters and results are open: a function without parameters whose result is `Unit`.
 abbrev pub open_signature : List ℕ → Option KtType → Option Signature
 open_signature [] (Some t) = if is_unit t then Some (record { least = 0; most = 0; ways = Each Inferred; result = unit }) else None
@@ -398,8 +457,13 @@ open_signature _ _ = None
 unfoldable pub signature_of : Resolved → ℕ → Option Signature
 signature_of resolved f = open_signature (parameters_at resolved f) (declaration_type resolved (function_place f))
 
-abbrev pub context_of : Classes → Resolved → TypeContext
-context_of classes resolved = record { classes = classes; written = declaration_type resolved; signature = signature_of resolved }
+abbrev pub owner_result : Resolved → Owner → Option KtType
+owner_result resolved (owner.Function f) = declaration_type resolved (function_place f)
+owner_result resolved _ = None
+
+abbrev pub context_of : Classes → Resolved → Owner → TypeContext
+context_of classes resolved o =
+    record { classes = classes; written = declaration_type resolved; signature = signature_of resolved; result = owner_result resolved o }
 
 -- parameters have their written types before the body
 abbrev pub parameter_types : TypeContext → LocalTypes → List ℕ → LocalTypes
@@ -426,7 +490,7 @@ owner_ways file resolved _ = Each Unvalued
 -- what is said of the trees of an owner's body
 unfoldable pub body_judged : File → Classes → Resolved → Owner → Judgements
 body_judged file classes resolved o =
-    let cx = context_of classes resolved in
+    let cx = context_of classes resolved o in
     all_judged cx (owner_ways file resolved o) (parameter_types cx [] (owner_parameters resolved o)) (owner_trees file resolved o)
 
 -- a typing rule is violated in an owner's body

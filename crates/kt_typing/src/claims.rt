@@ -1,6 +1,6 @@
 //! What typing says of trees.
-use crate::finding::Rule;
-use crate::kinds::KtType;
+use kt_model::finding::Rule;
+use kt_model::kinds::KtType;
 use kt_tree::Span;
 
 /// How a tree is typed: as a statement whose value nobody takes, by its declared type, by its type as a value, or as what must give a value of a type.
