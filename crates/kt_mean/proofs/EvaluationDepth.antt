@@ -4,13 +4,15 @@ use Rattle.std.proofs.lemmas.Bool.{eq-eqb}
 use Rattle.kt_model.specs.declared.kinds.KtType.{KtType}
 use Rattle.kt_tree.specs.declared.ast.part.Arithmetic.{Arithmetic}
 use Rattle.kt_tree.specs.declared.ast.part.Arithmetic.TheVariants as arithmetic
+use Rattle.kt_tree.specs.declared.ast.part.Equality.{Equality}
 use Rattle.kt_model.specs.BodyTrees.{Operation, Int', Bool', Null', Template', Sign', Sum', Arithmetic', Compare', Equal', BuiltIn', Tree, Trees, Empty', First', Operation', Name', Paren', Not', And', Or', If', Declare', Local', Assign', Compound', Call', Return', Throw', Shut', number}
 use Rattle.kt_mean.specs.declared.states.Value.{Value}
 use Rattle.kt_mean.specs.declared.states.Value.TheVariants as value
+use Rattle.kt_mean.specs.declared.states.Way.{Way}
 use Rattle.kt_mean.specs.declared.states.Way.TheVariants as way
 use Rattle.kt_mean.specs.declared.states.Limit.TheVariants as limit
-use Rattle.kt_mean.specs.Frames.{Frame, State, Ending, Gave, Left, Over, Wrong, Outcome, Run, ◌>>=◌, ending_after, events_after, pure, over, wrong, turned}
-use Rattle.kt_mean.specs.Evaluation.{Function, Program, choose, fits, is_unit, spend, read, read_value, store, write, write_over, print, text_of_value, on_one, on_two, arithmetic_of, println_name, print_name, built_in, operated, most_calls, begun, resume, given, ended, call_end, with_values, block_from, block, arguments_fit, invoke, limited, called, checked, operand_or_one, tree_at, entered, eval, meaning}
+use Rattle.kt_mean.specs.Frames.{Frame, State, Ending, Gave, Left, Over, Wrong, Outcome, Run, ◌>>=◌, ending_after, events_after, pure, leave, over, wrong, turned}
+use Rattle.kt_mean.specs.Evaluation.{Function, Program, choose, fits, is_unit, spend, read, read_value, store, write, write_over, print, text_of_value, on_one, on_two, arithmetic_of, equal_of, truth_of, returned, println_name, print_name, built_in, operated, most_calls, begun, resume, given, ended, call_end, with_values, block_from, block, asked, truth_tree, not_tree, and_tree, or_tree, if_tree, arguments_fit, invoke, limited, called, checked, operand_or_one, tree_at, entered, eval, meaning}
 use Rattle.kt_mean.specs.WholeRun.{start}
 use Rattle.kt_mean.specs.EvaluationLaws.{DepthIsNoPart, MeaningUnfolds, WholeIsMeaning}
 
@@ -70,6 +72,14 @@ wrong_falls : (s : State) → Falls s.steps (wrong {A = Value} s).ending
 unfolding wrong
 wrong_falls s = tt
 
+no_truth_falls : (s : State) → Falls s.steps (wrong {A = Bool} s).ending
+unfolding wrong
+no_truth_falls s = tt
+
+leave_falls : (w : Way) (s : State) → Falls s.steps (leave {A = Value} w s).ending
+unfolding leave
+leave_falls w s = omega arith
+
 choose_falls : {A : Type 0} (n : ℕ) (b : Bool) (p q : Run A) (s : State) → Falls n (p s).ending → Falls n (q s).ending → Falls n (choose b p q s).ending
 choose_falls n true p q s h i = h
 choose_falls n false p q s h i = i
@@ -77,6 +87,10 @@ choose_falls n false p q s h i = i
 choose_like : {A : Type 0} (k : ℕ) (b : Bool) (p q r : Run A) → Like k p q → ((s : State) → Falls s.steps (r s).ending) → Like k (choose b p r) (choose b q r)
 choose_like k true p q r h i = h
 choose_like k false p q r h i = still k r i
+
+either_like : {A : Type 0} (k : ℕ) (b : Bool) (p q r t : Run A) → Like k p q → Like k r t → Like k (choose b p r) (choose b q t)
+either_like k true p q r t h i = h
+either_like k false p q r t h i = i
 
 -- ---- single steps
 
@@ -120,6 +134,22 @@ arithmetic_falls s arithmetic.Multiply a b = pure_falls _ s
 arithmetic_falls s arithmetic.Divide a b = wrong_falls s
 arithmetic_falls s arithmetic.Remainder a b = wrong_falls s
 
+equal_falls : (s : State) (o : Equality) (vs : List Value) → Falls s.steps (equal_of o vs s).ending
+equal_falls s o [] = wrong_falls s
+equal_falls s o (v ∷ []) = wrong_falls s
+equal_falls s o (v ∷ w ∷ []) = pure_falls _ s
+equal_falls s o (v ∷ w ∷ x ∷ vs) = wrong_falls s
+
+truth_falls : (s : State) (v : Value) → Falls s.steps (truth_of v s).ending
+truth_falls s value.Unit = no_truth_falls s
+truth_falls s (value.Bool b) = pure_falls b s
+truth_falls s (value.Int k) = no_truth_falls s
+
+returned_falls : (s : State) (vs : List Value) → Falls s.steps (returned vs s).ending
+returned_falls s [] = leave_falls _ s
+returned_falls s (v ∷ []) = leave_falls _ s
+returned_falls s (v ∷ w ∷ vs) = wrong_falls s
+
 built_in_falls : (s : State) (name : ℕ) (vs : List Value) → Falls s.steps (built_in name vs s).ending
 built_in_falls s name [] = choose_falls s.steps (name == println_name) (print (10 ∷ [])) wrong s (print_falls s _) (wrong_falls s)
 built_in_falls s name (v ∷ []) =
@@ -130,14 +160,15 @@ built_in_falls s name (v ∷ w ∷ vs) = wrong_falls s
 operated_falls : (s : State) (o : Operation) (vs : List Value) → Falls s.steps (operated o vs s).ending
 operated_falls s (Int' k) [] = pure_falls _ s
 operated_falls s (Int' k) (v ∷ vs) = wrong_falls s
-operated_falls s (Bool' b) vs = wrong_falls s
+operated_falls s (Bool' b) [] = pure_falls _ s
+operated_falls s (Bool' b) (v ∷ vs) = wrong_falls s
 operated_falls s Null' vs = wrong_falls s
 operated_falls s (Template' texts) vs = wrong_falls s
 operated_falls s (Sign' sign) vs = one_falls s _ (λ a. pure_falls _ s) vs
 operated_falls s Sum' vs = two_falls s _ (λ a b. pure_falls _ s) vs
 operated_falls s (Arithmetic' o) vs = two_falls s _ (arithmetic_falls s o) vs
-operated_falls s (Compare' o) vs = wrong_falls s
-operated_falls s (Equal' o) vs = wrong_falls s
+operated_falls s (Compare' o) vs = two_falls s _ (λ a b. pure_falls _ s) vs
+operated_falls s (Equal' o) vs = equal_falls s o vs
 operated_falls s (BuiltIn' name returns) vs = built_in_falls s name vs
 
 read_like : (k x : ℕ) → Like k (read x) (read x)
@@ -195,6 +226,24 @@ module _ (p : Program) (k : ℕ) (go also : Tree → Run Value) (like : (t : Tre
   block_like v Empty' = still k (pure v) (λ s. pure_falls v s)
   block_like v (First' t rest) = bind_like k (go t) (also t) _ _ (like t) (λ w. block_like w rest)
 
+  asked_like : (e : Tree) → Like k (asked p go e) (asked p also e)
+  asked_like e = bind_like k (go e) (also e) _ _ (like e) (λ v. still k (truth_of v) (λ s. truth_falls s v))
+
+  truth_like : (e : Tree) → Like k (truth_tree p go e) (truth_tree p also e)
+  truth_like e = bind_like k (asked p go e) (asked p also e) _ _ (asked_like e) (λ b. still k (pure (value.Bool b)) (λ s. pure_falls (value.Bool b) s))
+
+  not_like : (e : Tree) → Like k (not_tree p go e) (not_tree p also e)
+  not_like e = bind_like k (asked p go e) (asked p also e) _ _ (asked_like e) (λ b. still k (pure _) (λ s. pure_falls _ s))
+
+  and_like : (a b : Tree) → Like k (and_tree p go a b) (and_tree p also a b)
+  and_like a b = bind_like k (asked p go a) (asked p also a) _ _ (asked_like a) (λ holds. either_like k holds _ _ _ _ (truth_like b) (still k (pure _) (λ s. pure_falls _ s)))
+
+  or_like : (a b : Tree) → Like k (or_tree p go a b) (or_tree p also a b)
+  or_like a b = bind_like k (asked p go a) (asked p also a) _ _ (asked_like a) (λ holds. either_like k holds _ _ _ _ (still k (pure _) (λ s. pure_falls _ s)) (truth_like b))
+
+  if_like : (c : Tree) (a b : Trees) → Like k (if_tree p go c a b) (if_tree p also c a b)
+  if_like c a b = bind_like k (asked p go c) (asked p also c) _ _ (asked_like c) (λ holds. either_like k holds _ _ _ _ (block_like value.Unit a) (block_like value.Unit b))
+
   invoke_like : (f : Function) (vs : List Value) → Like k (invoke p go f vs) (invoke p also f vs)
   unfolding invoke turned
   invoke_like f vs = record {
@@ -210,10 +259,10 @@ module _ (p : Program) (k : ℕ) (go also : Tree → Run Value) (like : (t : Tre
   tree_like (Operation' n o parts) = values_like parts _ _ (λ vs. still k (operated o vs) (λ s. operated_falls s o vs))
   tree_like (Name' n at x) = read_like k x
   tree_like (Paren' n e) = like e
-  tree_like (Not' n e) = still k wrong (λ s. wrong_falls s)
-  tree_like (And' n a b) = still k wrong (λ s. wrong_falls s)
-  tree_like (Or' n a b) = still k wrong (λ s. wrong_falls s)
-  tree_like (If' n c a b) = still k wrong (λ s. wrong_falls s)
+  tree_like (Not' n e) = not_like e
+  tree_like (And' n a b) = and_like a b
+  tree_like (Or' n a b) = or_like a b
+  tree_like (If' n c a b) = if_like c a b
   tree_like (Declare' n x) = still k (store x None) (λ s. store_falls s x None)
   tree_like (Local' n at x e) = bind_like k _ _ _ _ (like e) (λ v. checked_like k (p.written x) v _ (still k (store x (Some v)) (λ s. store_falls s x (Some v))))
   tree_like (Assign' n at x fixed e) = bind_like k _ _ _ _ (like e) (λ v. checked_like k (p.written x) v _ (write_like k fixed x v))
@@ -223,7 +272,7 @@ module _ (p : Program) (k : ℕ) (go also : Tree → Run Value) (like : (t : Tre
       bind_like k _ _ _ _ (still k (operated o (old ∷ operand_or_one vs)) (λ s. operated_falls s o (old ∷ operand_or_one vs))) (λ v.
       checked_like k (p.written x) v _ (write_like k fixed x v))))
   tree_like (Call' n f returns arguments) = values_like arguments _ _ (λ vs. called_like (p.functions f) vs)
-  tree_like (Return' n value) = still k wrong (λ s. wrong_falls s)
+  tree_like (Return' n value) = values_like value _ _ (λ vs. still k (returned vs) (λ s. returned_falls s vs))
   tree_like (Throw' n e) = still k wrong (λ s. wrong_falls s)
   tree_like (Shut' n) = still k wrong (λ s. wrong_falls s)
 

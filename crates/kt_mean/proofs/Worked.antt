@@ -2,12 +2,12 @@
 use Rattle.std.proofs.Common.{refl}
 use Rattle.std.specs.Fmt.{digits}
 use Rattle.std.specs.Int.{int_wrap}
-use Rattle.kt_mean.specs.Frames.{◌>>=◌, pure, over, wrong, turned}
+use Rattle.kt_mean.specs.Frames.{◌>>=◌, pure, leave, over, wrong, turned}
 use Rattle.kt_mean.specs.Evaluation.{spend, read, store, write, print, limited, invoke, entered, eval}
 use Rattle.kt_mean.specs.WorkedRuns.{WorkedRuns}
 
 pub worked : WorkedRuns
-unfolding int_wrap digits ◌>>=◌ pure over wrong turned spend read store write print limited invoke entered eval
+unfolding int_wrap digits ◌>>=◌ pure leave over wrong turned spend read store write print limited invoke entered eval
 worked = record {
   sum_wraps = record { events_are = refl; ends = refl };
   left_first = record { events_are = refl; ends = refl };
@@ -17,4 +17,13 @@ worked = record {
   steps_end = record { events_are = refl; ends = refl };
   last_call = record { events_are = refl; ends = refl };
   one_call_more = record { events_are = refl; ends = refl };
+  and_stops = record { events_are = refl; ends = refl };
+  and_goes_on = record { events_are = refl; ends = refl };
+  or_stops = record { events_are = refl; ends = refl };
+  or_goes_on = record { events_are = refl; ends = refl };
+  branches_taken = record { events_are = refl; ends = refl };
+  returns_from_inside = record { events_are = refl; ends = refl };
+  edges_compared = record { events_are = refl; ends = refl };
+  equal_values = record { events_are = refl; ends = refl };
+  number_as_condition = record { events_are = refl; ends = refl };
 }

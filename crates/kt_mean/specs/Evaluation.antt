@@ -5,22 +5,27 @@
 -- one another.
 --
 -- A wrong use is: a local that holds nothing is read; a `val` or parameter that holds a value is assigned; an operand is of another kind than its operator
--- needs; an argument, an assigned or a returned value lies outside the written type; a dead tree is entered; a function whose result isn't `Unit` ends
--- without a value. There are no types in a state: what a value is, is looked at here each time, and never in the code.
-use Rattle.std.specs.Prelude.{ℕ, zero, suc, ◌+◌, ◌-◌, ◌==◌, nat_lt, ℤ, pos, Bool, true, false, ◌&&◌, ◌||◌, not, Option, Some, None, List, [], ◌∷◌, ◌++◌, codes, if◌then◌else◌}
+-- needs; a condition is no truth value; an argument, an assigned or a returned value lies outside the written type; a dead tree is entered; a function
+-- whose result isn't `Unit` ends without a value. There are no types in a state: what a value is, is looked at here each time, and never in the code.
+use Rattle.std.specs.Prelude.{ℕ, zero, suc, ◌+◌, ◌-◌, ◌==◌, nat_lt, ℤ, pos, int_lt, int_le, Bool, true, false, ◌&&◌, ◌||◌, not, Option, Some, None, List, [], ◌∷◌, ◌++◌, codes, if◌then◌else◌}
 use Rattle.std.specs.Int.{w32, int_wrapping_add, int_wrapping_sub, int_wrapping_mul, int_wrapping_neg}
+use Rattle.std.specs.Ordering.{int_eq}
 use Rattle.std.specs.Fmt.{signed_decimal}
 use Rattle.kt_tree.specs.declared.ast.part.Sign.{Sign}
 use Rattle.kt_tree.specs.declared.ast.part.Sign.TheVariants as sign
 use Rattle.kt_tree.specs.declared.ast.part.Arithmetic.{Arithmetic}
 use Rattle.kt_tree.specs.declared.ast.part.Arithmetic.TheVariants as arithmetic
+use Rattle.kt_tree.specs.declared.ast.part.Comparison.{Comparison}
+use Rattle.kt_tree.specs.declared.ast.part.Comparison.TheVariants as comparison
+use Rattle.kt_tree.specs.declared.ast.part.Equality.{Equality}
+use Rattle.kt_tree.specs.declared.ast.part.Equality.TheVariants as equality
 use Rattle.kt_model.specs.declared.kinds.KtType.{KtType}
 use Rattle.kt_model.specs.declared.kinds.Head.TheVariants as head
 use Rattle.kt_model.specs.Classes.{any}
 use Rattle.kt_model.specs.Subtypes.{class_of}
-use Rattle.kt_model.specs.BodyTrees.{Operation, Int', Sign', Sum', Arithmetic', BuiltIn', Tree, Trees, Empty', First', Operation', Name', Paren', Declare', Local', Assign', Compound', Call', number}
+use Rattle.kt_model.specs.BodyTrees.{Operation, Int', Bool', Sign', Sum', Arithmetic', Compare', Equal', BuiltIn', Tree, Trees, Empty', First', Operation', Name', Paren', Not', And', Or', If', Declare', Local', Assign', Compound', Call', Return', number}
 use Rattle.kt_mean.specs.Events.{Printed}
-use Rattle.kt_mean.specs.Frames.{Locals, no_locals, with_local, Frame, State, Ending, Gave, Left, Over, Wrong, Run, ◌>>=◌, pure, over, wrong, turned}
+use Rattle.kt_mean.specs.Frames.{Locals, no_locals, with_local, Frame, State, Ending, Gave, Left, Over, Wrong, Run, ◌>>=◌, pure, leave, over, wrong, turned}
 use Rattle.kt_mean.specs.declared.states.Value.{Value}
 use Rattle.kt_mean.specs.declared.states.Value.TheVariants as value
 use Rattle.kt_mean.specs.declared.states.Way.TheVariants as way
@@ -125,6 +130,29 @@ arithmetic_of arithmetic.Subtract a b = pure (value.Int (int_wrapping_sub w32 a 
 arithmetic_of arithmetic.Multiply a b = pure (value.Int (int_wrapping_mul w32 a b))
 arithmetic_of _ a b = wrong
 
+-- "Comparison expressions": integers by their order.
+abbrev pub compared : Comparison → ℤ → ℤ → Bool
+compared comparison.Less a b = int_lt a b
+compared comparison.Greater a b = int_lt b a
+compared comparison.LessOrEqual a b = int_le a b
+compared comparison.GreaterOrEqual a b = int_le b a
+
+-- "Value equality expressions": `equals` of the built-in classes. Values of different kinds are never the same, which is no wrong use.
+abbrev pub same_value : Value → Value → Bool
+same_value value.Unit value.Unit = true
+same_value (value.Bool a) (value.Bool b) = choose a b (not b)
+same_value (value.Int a) (value.Int b) = int_eq a b
+same_value _ _ = false
+
+-- what `==` and `!=` say, by whether their operands are the same
+abbrev pub equal_by : Equality → Bool → Bool
+equal_by equality.Equal same = same
+equal_by equality.NotEqual same = not same
+
+abbrev pub equal_of : Equality → List Value → Run Value
+equal_of o (v ∷ w ∷ []) = pure (value.Bool (equal_by o (same_value v w)))
+equal_of o _ = wrong
+
 -- the numbers of the names of the built-in functions
 abbrev pub println_name : ℕ
 println_name = 20
@@ -141,9 +169,12 @@ built_in name _ = wrong
 -- The operations that are not here are not open yet.
 abbrev pub operated : Operation → List Value → Run Value
 operated (Int' k) [] = pure (value.Int (pos k))
+operated (Bool' b) [] = pure (value.Bool b)
 operated (Sign' s) vs = on_one (λ a. pure (value.Int (signed s a))) vs
 operated Sum' vs = on_two (λ a b. pure (value.Int (int_wrapping_add w32 a b))) vs
 operated (Arithmetic' o) vs = on_two (arithmetic_of o) vs
+operated (Compare' o) vs = on_two (λ a b. pure (value.Bool (compared o a b))) vs
+operated (Equal' o) vs = equal_of o vs
 operated (BuiltIn' name returns) vs = built_in name vs
 operated _ vs = wrong
 
@@ -151,6 +182,17 @@ operated _ vs = wrong
 abbrev pub operand_or_one : List Value → List Value
 operand_or_one [] = value.Int (pos 1) ∷ []
 operand_or_one (v ∷ vs) = v ∷ vs
+
+-- a condition or an operand of `!`, `&&` and `||` is a truth value
+abbrev pub truth_of : Value → Run Bool
+truth_of (value.Bool b) = pure b
+truth_of _ = wrong
+
+-- "Return expressions": the body is left with the value of the operand, with `Unit` where none is written.
+abbrev pub returned : List Value → Run Value
+returned [] = leave (way.Return value.Unit)
+returned (v ∷ []) = leave (way.Return v)
+returned _ = wrong
 
 -- what is done with a value that is to lie in a written type
 abbrev pub checked : Option KtType → Value → Run Value → Run Value
@@ -219,6 +261,30 @@ module _ (p : Program) (go : Tree → Run Value) where
   abbrev pub block : Trees → Run Value
   block ts = block_from value.Unit ts
 
+  -- whether a condition holds
+  abbrev pub asked : Tree → Run Bool
+  asked e = go e >>= truth_of
+
+  -- the same, as a value
+  abbrev pub truth_tree : Tree → Run Value
+  truth_tree e = asked e >>= (λ holds. pure (value.Bool holds))
+
+  abbrev pub not_tree : Tree → Run Value
+  not_tree e = asked e >>= (λ holds. pure (value.Bool (not holds)))
+
+  -- "Logical conjunction expressions", "Logical disjunction expressions": the right operand of `&&` is entered only where the left one holds, that of `||`
+  -- only where it doesn't.
+  abbrev pub and_tree : Tree → Tree → Run Value
+  and_tree a b = asked a >>= (λ holds. choose holds (truth_tree b) (pure (value.Bool false)))
+
+  abbrev pub or_tree : Tree → Tree → Run Value
+  or_tree a b = asked a >>= (λ holds. choose holds (pure (value.Bool true)) (truth_tree b))
+
+  -- "Conditional expressions": the value is that of the branch taken. Where no `else` is written the second branch is empty. Kotlin then gives `Unit` whichever
+  -- branch is taken, and this gives the first one's value, at which nothing looks: an `if` whose value is used has an `else`.
+  abbrev pub if_tree : Tree → Trees → Trees → Run Value
+  if_tree c a b = asked c >>= (λ holds. choose holds (block a) (block b))
+
   unfoldable pub invoke : Function → List Value → Run Value
   invoke f vs = λ s. turned (call_end f s.here s.calls) (λ u. block f.body (begun f vs u)) s
 
@@ -243,11 +309,16 @@ module _ (p : Program) (go : Tree → Run Value) where
   tree_at (Operation' n o parts) = with_values parts (operated o)
   tree_at (Name' n at x) = read x
   tree_at (Paren' n e) = go e
+  tree_at (Not' n e) = not_tree e
+  tree_at (And' n a b) = and_tree a b
+  tree_at (Or' n a b) = or_tree a b
+  tree_at (If' n c a b) = if_tree c a b
   tree_at (Declare' n x) = store x None
   tree_at (Local' n at x e) = local_tree x e
   tree_at (Assign' n at x fixed e) = assign_tree x fixed e
   tree_at (Compound' n at x fixed o operand) = compound_tree x fixed o operand
   tree_at (Call' n f returns arguments) = with_values arguments (called (p.functions f))
+  tree_at (Return' n value) = with_values value returned
   tree_at _ = wrong
 
   -- the entering of a tree

@@ -1,7 +1,13 @@
 -- Runs that are worked out by hand, as small programs over plain trees. This project's own.
-use Rattle.std.specs.Prelude.{◌≡◌, ℕ, List, [], ◌∷◌, ◌++◌, codes, Option, Some, None, true, false, ◌==◌, if◌then◌else◌}
+use Rattle.std.specs.Prelude.{◌≡◌, ℕ, List, [], ◌∷◌, ◌++◌, codes, Option, Some, None, Bool, true, false, ◌==◌, if◌then◌else◌}
 use Rattle.kt_tree.specs.declared.token.Span.{Span}
-use Rattle.kt_model.specs.BodyTrees.{Mark, Tree, Trees, Empty', First', Int', Sum', BuiltIn', Operation', Name', Local', Assign', Compound', Call'}
+use Rattle.kt_tree.specs.declared.ast.part.Sign.TheVariants.{Minus}
+use Rattle.kt_tree.specs.declared.ast.part.Arithmetic.TheVariants.{Subtract}
+use Rattle.kt_tree.specs.declared.ast.part.Comparison.{Comparison}
+use Rattle.kt_tree.specs.declared.ast.part.Comparison.TheVariants.{Less, Greater, LessOrEqual, GreaterOrEqual}
+use Rattle.kt_tree.specs.declared.ast.part.Equality.{Equality}
+use Rattle.kt_tree.specs.declared.ast.part.Equality.TheVariants.{Equal, NotEqual}
+use Rattle.kt_model.specs.BodyTrees.{Mark, Tree, Trees, Empty', First', Int', Bool', Sign', Sum', Arithmetic', Compare', Equal', BuiltIn', Operation', Name', Not', And', Or', If', Local', Assign', Compound', Call', Return', listed}
 use Rattle.kt_model.specs.declared.kinds.Head.TheVariants as head
 use Rattle.kt_mean.specs.Events.{Event, Printed}
 use Rattle.kt_mean.specs.Frames.{Outcome}
@@ -21,6 +27,9 @@ mark = record { number = 0; span = nowhere; word = nowhere }
 abbrev int : ℕ → Tree
 int k = Operation' mark (Int' k) Empty'
 
+abbrev bool : Bool → Tree
+bool b = Operation' mark (Bool' b) Empty'
+
 abbrev both : Tree → Tree → Trees
 both a b = First' a (First' b Empty')
 
@@ -29,6 +38,31 @@ println e = Operation' mark (BuiltIn' println_name true) (First' e Empty')
 
 abbrev print : Tree → Tree
 print e = Operation' mark (BuiltIn' print_name true) (First' e Empty')
+
+-- each is printed on a line of its own
+abbrev all_printed : List Tree → Trees
+all_printed [] = Empty'
+all_printed (e ∷ es) = First' (println e) (all_printed es)
+
+-- the edges of Int
+abbrev most : Tree
+most = int 2147483647
+
+abbrev least : Tree
+least = Operation' mark (Arithmetic' Subtract) (both (Operation' mark (Sign' Minus) (First' most Empty')) (int 1))
+
+abbrev compare : Comparison → Tree → Tree → Tree
+compare o a b = Operation' mark (Compare' o) (both a b)
+
+abbrev equal : Equality → Tree → Tree → Tree
+equal o a b = Operation' mark (Equal' o) (both a b)
+
+abbrev if_alone : Tree → Trees → Tree
+if_alone c a = If' mark c a Empty'
+
+-- if (c) print(1) else print(2)
+abbrev one_or_two : Tree → Tree
+one_or_two c = If' mark c (First' (print (int 1)) Empty') (First' (print (int 2)) Empty')
 
 abbrev unit_function : List ℕ → Trees → Function
 unit_function parameters body = record { parameters = parameters; body = body; is_expression = false; result = Some (record { head = head.Unit; nullable = false }) }
@@ -45,6 +79,18 @@ alone t = First' t Empty'
 
 abbrev no_other : Function
 no_other = unit_function [] Empty'
+
+-- it prints 1 and returns `true`
+abbrev prints_and_holds : Function
+prints_and_holds =
+    record { parameters = []; body = both (print (int 1)) (Return' mark (alone (bool true))); is_expression = false; result = Some (record { head = head.Boolean; nullable = false }) }
+
+-- what `println` prints of a truth value
+abbrev true_line : Event
+true_line = Printed (codes "true" ++ 10 ∷ [])
+
+abbrev false_line : Event
+false_line = Printed (codes "false" ++ 10 ∷ [])
 
 abbrev call : Trees → Tree
 call arguments = Call' mark 1 true arguments
@@ -70,3 +116,31 @@ pub record WorkedRuns : Type 0 where
   -- a function that calls itself: with `main`, sixteen calls are under way after fifteen steps
   pub last_call : Runs (alone (call Empty')) (unit_function [] (alone (call Empty'))) 15 [] (Some end.Steps)
   pub one_call_more : Runs (alone (call Empty')) (unit_function [] (alone (call Empty'))) 16 [] (Some end.Calls)
+  -- println(false && f()), where f prints 1 and returns true
+  pub and_stops : Runs (alone (println (And' mark (bool false) (call Empty')))) prints_and_holds 20 (false_line ∷ []) (Some end.Done)
+  -- println(true && f())
+  pub and_goes_on : Runs (alone (println (And' mark (bool true) (call Empty')))) prints_and_holds 20 (Printed (codes "1") ∷ true_line ∷ []) (Some end.Done)
+  -- println(true || f())
+  pub or_stops : Runs (alone (println (Or' mark (bool true) (call Empty')))) prints_and_holds 20 (true_line ∷ []) (Some end.Done)
+  -- println(false || f())
+  pub or_goes_on : Runs (alone (println (Or' mark (bool false) (call Empty')))) prints_and_holds 20 (Printed (codes "1") ∷ true_line ∷ []) (Some end.Done)
+  -- if (true) print(1) else print(2); if (!true) print(1) else print(2); if (false) print(1)
+  pub branches_taken : Runs
+      (listed (one_or_two (bool true) ∷ one_or_two (Not' mark (bool true)) ∷ if_alone (bool false) (alone (print (int 1))) ∷ [])) no_other 20
+      (Printed (codes "1") ∷ Printed (codes "2") ∷ []) (Some end.Done)
+  -- if (true) { if (true) { return }; print(1) }; print(2)
+  pub returns_from_inside : Runs
+      (both (if_alone (bool true) (both (if_alone (bool true) (alone (Return' mark Empty'))) (print (int 1)))) (print (int 2))) no_other 20
+      [] (Some end.Done)
+  -- println(-2147483648 < 2147483647), and so on at the edges of Int: each operator where it holds and where it doesn't
+  pub edges_compared : Runs
+      (all_printed (compare Less least most ∷ compare Less most most ∷ compare LessOrEqual least least ∷ compare LessOrEqual most least
+      ∷ compare Greater most least ∷ compare Greater least least ∷ compare GreaterOrEqual most most ∷ compare GreaterOrEqual least most ∷ [])) no_other 90
+      (true_line ∷ false_line ∷ true_line ∷ false_line ∷ true_line ∷ false_line ∷ true_line ∷ false_line ∷ []) (Some end.Done)
+  -- println(-2147483648 == 2147483647); println(2 != 1 + 1); println(true == false); println(1 == true); println(print(1) == print(2))
+  pub equal_values : Runs
+      (all_printed (equal Equal least most ∷ equal NotEqual (int 2) (Operation' mark Sum' (both (int 1) (int 1))) ∷ equal Equal (bool true) (bool false)
+      ∷ equal Equal (int 1) (bool true) ∷ equal Equal (print (int 1)) (print (int 2)) ∷ [])) no_other 40
+      (false_line ∷ false_line ∷ false_line ∷ false_line ∷ Printed (codes "1") ∷ Printed (codes "2") ∷ true_line ∷ []) (Some end.Done)
+  -- if (1) print(1)
+  pub number_as_condition : Runs (alone (if_alone (int 1) (alone (print (int 1))))) no_other 10 [] None

@@ -1,5 +1,5 @@
 -- Where no wrong use comes, the meaning is the same without written types and dead trees.
-use Rattle.std.proofs.Common.{◌≡◌, ℕ, zero, suc, nat_lt, Bool, true, false, ◌&&◌, Option, Some, None, List, [], ◌∷◌, ◌++◌, refl, ap, subst, ◌∙◌}
+use Rattle.std.proofs.Common.{◌≡◌, ℕ, zero, suc, nat_lt, Bool, true, false, ◌&&◌, not, Option, Some, None, List, [], ◌∷◌, ◌++◌, refl, ap, subst, ◌∙◌}
 use Rattle.std.proofs.lemmas.Bool.{false≢true}
 use Rattle.kt_model.specs.declared.kinds.KtType.{KtType}
 use Rattle.kt_model.specs.BodyTrees.{Operation', Name', Paren', Not', And', Or', If', Declare', Local', Assign', Compound', Call', Return', Throw', Shut', Tree, Trees, Empty', First', number}
@@ -7,7 +7,7 @@ use Rattle.kt_mean.specs.declared.states.Value.{Value}
 use Rattle.kt_mean.specs.declared.states.Value.TheVariants as value
 use Rattle.kt_mean.specs.declared.states.Limit.TheVariants as limit
 use Rattle.kt_mean.specs.Frames.{Frame, State, Ending, Gave, Left, Over, Wrong, Outcome, Run, NotWrong, ◌>>=◌, ending_after, events_after, pure, over, wrong, turned}
-use Rattle.kt_mean.specs.Evaluation.{Program, Function, choose, fits, spend, read, store, write, operated, most_calls, begun, call_end, with_values, block_from, block, arguments_fit, invoke, limited, called, operand_or_one, tree_at, entered, eval}
+use Rattle.kt_mean.specs.Evaluation.{Program, Function, choose, fits, spend, read, store, write, operated, most_calls, begun, call_end, with_values, block_from, block, asked, truth_of, truth_tree, not_tree, and_tree, or_tree, if_tree, returned, arguments_fit, invoke, limited, called, operand_or_one, tree_at, entered, eval}
 use Rattle.kt_mean.specs.Events.{Event}
 use Rattle.kt_mean.specs.WholeRun.{whole, start}
 use Rattle.kt_run.specs.Running.{bare}
@@ -56,6 +56,10 @@ dead_keeps : {A : Type 0} (b : Bool) (p q : Run A) → Keeps p q → Keeps (choo
 dead_keeps true p q k = wrong_keeps q
 dead_keeps false p q k = k
 
+either_keeps : {A : Type 0} (b : Bool) (p q r t : Run A) → Keeps p q → Keeps r t → Keeps (choose b p r) (choose b q t)
+either_keeps true p q r t k l = k
+either_keeps false p q r t k l = l
+
 limited_keeps : (p q : Run Value) → Keeps p q → Keeps (limited p) (limited q)
 unfolding limited
 limited_keeps p q k = record { keeps = λ s h. by (nat_lt s.calls most_calls) s h } where
@@ -87,6 +91,24 @@ module _ (p : Program) (go also : Tree → Run Value) (part : (t : Tree) → Kee
   block_keeps v Empty' = same (pure v)
   block_keeps v (First' t rest) = bind_keeps (go t) (also t) _ _ (part t) (λ w. block_keeps w rest)
 
+  asked_keeps : (e : Tree) → Keeps (asked p go e) (asked (bare p) also e)
+  asked_keeps e = bind_keeps (go e) (also e) truth_of truth_of (part e) (λ v. same (truth_of v))
+
+  truth_keeps : (e : Tree) → Keeps (truth_tree p go e) (truth_tree (bare p) also e)
+  truth_keeps e = bind_keeps (asked p go e) (asked (bare p) also e) _ _ (asked_keeps e) (λ b. same (pure (value.Bool b)))
+
+  not_keeps : (e : Tree) → Keeps (not_tree p go e) (not_tree (bare p) also e)
+  not_keeps e = bind_keeps (asked p go e) (asked (bare p) also e) _ _ (asked_keeps e) (λ b. same (pure (value.Bool (not b))))
+
+  and_keeps : (a b : Tree) → Keeps (and_tree p go a b) (and_tree (bare p) also a b)
+  and_keeps a b = bind_keeps (asked p go a) (asked (bare p) also a) _ _ (asked_keeps a) (λ holds. either_keeps holds _ _ _ _ (truth_keeps b) (same (pure (value.Bool false))))
+
+  or_keeps : (a b : Tree) → Keeps (or_tree p go a b) (or_tree (bare p) also a b)
+  or_keeps a b = bind_keeps (asked p go a) (asked (bare p) also a) _ _ (asked_keeps a) (λ holds. either_keeps holds _ _ _ _ (same (pure (value.Bool true))) (truth_keeps b))
+
+  if_keeps : (c : Tree) (a b : Trees) → Keeps (if_tree p go c a b) (if_tree (bare p) also c a b)
+  if_keeps c a b = bind_keeps (asked p go c) (asked (bare p) also c) _ _ (asked_keeps c) (λ holds. either_keeps holds _ _ _ _ (block_keeps value.Unit a) (block_keeps value.Unit b))
+
   invoke_keeps : (f : Function) (vs : List Value) → Keeps (invoke p go f vs) (invoke (bare p) also f vs)
   unfolding invoke turned
   invoke_keeps f vs = record {
@@ -108,10 +130,10 @@ module _ (p : Program) (go also : Tree → Run Value) (part : (t : Tree) → Kee
   tree_keeps (Operation' n o parts) = values_keep parts _ _ (λ vs. same (operated o vs))
   tree_keeps (Name' n at x) = same (read x)
   tree_keeps (Paren' n e) = part e
-  tree_keeps (Not' n e) = same wrong
-  tree_keeps (And' n a b) = same wrong
-  tree_keeps (Or' n a b) = same wrong
-  tree_keeps (If' n c a b) = same wrong
+  tree_keeps (Not' n e) = not_keeps e
+  tree_keeps (And' n a b) = and_keeps a b
+  tree_keeps (Or' n a b) = or_keeps a b
+  tree_keeps (If' n c a b) = if_keeps c a b
   tree_keeps (Declare' n x) = same (store x None)
   tree_keeps (Local' n at x e) = bind_keeps _ _ _ _ (part e) (λ v. checked_keeps (fits (p.written x) v) (store x (Some v)) (store x (Some v)) (same (store x (Some v))))
   tree_keeps (Assign' n at x fixed e) = bind_keeps _ _ _ _ (part e) (λ v. checked_keeps (fits (p.written x) v) (write fixed x v) (write fixed x v) (same (write fixed x v)))
@@ -121,7 +143,7 @@ module _ (p : Program) (go also : Tree → Run Value) (part : (t : Tree) → Kee
       bind_keeps _ _ _ _ (same (operated o (old ∷ operand_or_one vs))) (λ v.
       checked_keeps (fits (p.written x) v) (write fixed x v) (write fixed x v) (same (write fixed x v)))))
   tree_keeps (Call' n f returns arguments) = values_keep arguments _ _ (λ vs. called_keeps (p.functions f) vs)
-  tree_keeps (Return' n value) = same wrong
+  tree_keeps (Return' n value) = values_keep value _ _ (λ vs. same (returned vs))
   tree_keeps (Throw' n e) = same wrong
   tree_keeps (Shut' n) = same wrong
 

@@ -9,7 +9,7 @@ use Rattle.std.proofs.Math.Path.{fun_ext}
 use Rattle.kt_mean.specs.declared.states.Value.{Value}
 use Rattle.kt_mean.specs.declared.states.Way.{Way}
 use Rattle.kt_mean.specs.declared.states.Limit.{Limit}
-use Rattle.kt_mean.specs.Frames.{State, Ending, Gave, Left, Over, Wrong, Outcome, Run, NotWrong, ◌>>=◌, ending_after, events_after, pure}
+use Rattle.kt_mean.specs.Frames.{State, Ending, Gave, Left, Over, Wrong, Outcome, Run, NotWrong, ◌>>=◌, ending_after, events_after, pure, leave}
 use Rattle.kt_mean.specs.Evaluation.{print}
 use Rattle.kt_run.specs.declared.state.State.{State as Kept}
 use Rattle.kt_run.specs.declared.state.Halt.{Halt}
@@ -209,6 +209,11 @@ same_runs p q s r t e h = subst (λ x. Runs x s r t) (sym e) h
 pub pure_runs : {A : Type 0} (a : A) (s : Scene) → Runs (pure a) s (Ok a) s
 unfolding pure
 pure_runs a s = record { events = []; puts = none_put s.out; is = λ input. refl }
+
+-- a body that is left
+pub leave_runs : {A : Type 0} (w : Way) (s : Scene) → Runs (leave {A = A} w) s (Err (halt.Way w)) s
+unfolding leave
+leave_runs w s = record { events = []; puts = none_put s.out; is = λ input. refl }
 
 -- want of memory, where nothing was put
 pub memory_runs : {A : Type 0} (p : Run A) (s : Kept) (t : Kept) (out : OutputState) → Runs p (scene s out) (Err halt.NoMemory) (scene t out)

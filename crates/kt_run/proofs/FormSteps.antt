@@ -10,13 +10,11 @@ use Rattle.kt_tree.specs.declared.ast.body.Expr.{Expr}
 use Rattle.kt_tree.specs.declared.ast.body.Stmt.{Stmt}
 use Rattle.kt_tree.specs.declared.ast.body.StringPart.{StringPart}
 use Rattle.kt_tree.specs.declared.ast.body.StringPart.TheVariants as part
-use Rattle.kt_tree.specs.declared.ast.part.Ident.{Ident}
-use Rattle.kt_tree.specs.declared.ast.body.ExprKind.TheVariants as kind
-use Rattle.kt_model.proofs.BodyFolds.{kind_return_any, kind_return_at_any, piece_inserted, piece_text}
+use Rattle.kt_model.proofs.BodyFolds.{piece_inserted, piece_text}
 use Rattle.kt_model.specs.declared.kinds.KtType.{KtType}
 use Rattle.kt_model.specs.declared.uses.Named.{Named}
 use Rattle.kt_model.specs.declared.uses.Named.TheVariants as named
-use Rattle.kt_model.specs.BodyTrees.{Operation, Sum', Arithmetic', Mark, Tree, Trees, Empty', First', SeenKind, seen_kind, expr_tree, stmt_tree, listed, piece, inserted_of, name_tree, call_tree, local_tree as local_shape, assign_tree as assign_shape, seen as seen_in, seen_trees, seen_optional}
+use Rattle.kt_model.specs.BodyTrees.{Operation, Sum', Arithmetic', Mark, Tree, Trees, Empty', First', expr_tree, stmt_tree, listed, piece, inserted_of, name_tree, call_tree, local_tree as local_shape, assign_tree as assign_shape, seen as seen_in, seen_trees, seen_optional}
 use Rattle.kt_outside.specs.Outside.{OutputState}
 use Rattle.kt_outside.specs.Texts.{PutsFront}
 use Rattle.kt_mean.specs.Events.{text_of}
@@ -241,8 +239,3 @@ module _ (p : Program) (go : Tree → Run Value) where
     assign_is (named.Function f r) i at name a e s h = refl
     assign_is (named.BuiltIn f r) i at name a e s h = refl
     assign_is named.Other i at name a e s h = refl
-
-    -- a `return`, which is not open yet
-    pub return_closed : (l : Option Ident) (w : Option Expr) (n : ℕ) (at : Span) → tree_at p go ((seen_kind uses (kind.Return l w)).tree_at n at) ≡ wrong
-    return_closed None w n at = ap (λ (f : SeenKind). tree_at p go (f.tree_at n at)) (kind_return_any uses w)
-    return_closed (Some l) w n at = ap (λ (f : SeenKind). tree_at p go (f.tree_at n at)) (kind_return_at_any uses l w)

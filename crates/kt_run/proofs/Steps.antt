@@ -11,7 +11,7 @@ use Rattle.kt_mean.specs.declared.states.Value.{Value}
 use Rattle.kt_mean.specs.declared.states.Value.TheVariants as value
 use Rattle.kt_mean.specs.declared.states.Limit.TheVariants as limit
 use Rattle.kt_mean.specs.Frames.{State, Run, NotWrong, over, pure, wrong}
-use Rattle.kt_mean.specs.Evaluation.{Program, eval, entered, choose, read, read_value, store, write, write_over, operated, built_in, print, text_of_value, println_name, print_name}
+use Rattle.kt_mean.specs.Evaluation.{Program, eval, entered, choose, read, read_value, store, write, write_over, operated, truth_of, built_in, print, text_of_value, println_name, print_name}
 use Rattle.kt_run.specs.declared.state.State.{State as Kept}
 use Rattle.kt_run.specs.declared.state.Halt.{Halt}
 use Rattle.kt_run.specs.declared.state.Halt.TheVariants as halt
@@ -20,7 +20,7 @@ use Rattle.kt_run.specs.declared.operators.Operator.TheVariants as operator
 use Rattle.kt_run.specs.Slots.{held}
 use Rattle.kt_run.specs.Scene.{Scene, scene, seen, Right, Runs, Quiet, Prints}
 use Rattle.kt_run.specs.Running.{name_run}
-use Rattle.kt_run.specs.Operators.{operation_of, combined, with_sign, printed, gives, prints}
+use Rattle.kt_run.specs.Operators.{operation_of, combined, with_sign, truth_in, printed, gives, prints}
 use Rattle.kt_run.proofs.Chain.{quiet_runs, same_runs, pure_runs, memory_runs, prints_runs}
 
 -- a wrong use doesn't come
@@ -66,6 +66,12 @@ gives_some None s h = absurd (h.right [])
 pub gives_runs : (p : Run Value) (o : Option Value) (v : Value) (s : Scene) → p ≡ gives o → o ≡ Some v → Runs p s (Ok v) s
 gives_runs p o v s same e = same_runs p (gives o) s (Ok v) s same (subst (λ (x : Option Value). Runs (gives x) s (Ok v) s) (sym e) (pure_runs v s))
 
+none_is_some : (b : Bool) → None ≡ Some b → ⊥
+none_is_some b e = cc
+
+same_truth : (a b : Bool) → Some b ≡ Some a → b ≡ a
+same_truth a b e = cc
+
 pub operated_sign : (o : Sign) (v : Value) → operated (Sign' o) (v ∷ []) ≡ gives (with_sign o v)
 operated_sign o value.Unit = refl
 operated_sign o (value.Bool b) = refl
@@ -97,8 +103,23 @@ operated_two (operator.Arithmetic arithmetic.Remainder) (value.Int a) value.Unit
 operated_two (operator.Arithmetic arithmetic.Remainder) (value.Int a) (value.Bool b) = refl
 operated_two (operator.Arithmetic arithmetic.Remainder) value.Unit b = refl
 operated_two (operator.Arithmetic arithmetic.Remainder) (value.Bool a) b = refl
-operated_two (operator.Compare o) a b = refl
+operated_two (operator.Compare o) (value.Int a) (value.Int b) = refl
+operated_two (operator.Compare o) (value.Int a) value.Unit = refl
+operated_two (operator.Compare o) (value.Int a) (value.Bool b) = refl
+operated_two (operator.Compare o) value.Unit b = refl
+operated_two (operator.Compare o) (value.Bool a) b = refl
 operated_two (operator.Equal o) a b = refl
+
+-- a truth value
+pub truth_some : (v : Value) (s : Kept) → Right (truth_of v) s → IsSome (truth_in v)
+truth_some value.Unit s h = absurd (wrong_comes s h)
+truth_some (value.Bool b) s h = refl
+truth_some (value.Int k) s h = absurd (wrong_comes s h)
+
+pub truth_runs : (v : Value) (b : Bool) (s : Scene) → truth_in v ≡ Some b → Runs (truth_of v) s (Ok b) s
+truth_runs value.Unit b s e = absurd (none_is_some b e)
+truth_runs (value.Bool a) b s e = subst (λ (c : Bool). Runs (pure c) s (Ok b) s) (same_truth a b (sym e)) (pure_runs b s)
+truth_runs (value.Int k) b s e = absurd (none_is_some b e)
 
 -- an integer
 pub int_runs : (k : ℕ) (r : Result Value Halt) (s : Kept) (out : OutputState) → MatchResult r (λ v. v ≡ value.Int (pos k)) (λ h. h ≡ halt.NoMemory) → Runs (pure (value.Int (pos k))) (scene s out) r (scene s out)

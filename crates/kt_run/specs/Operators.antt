@@ -1,11 +1,11 @@
 -- What is done with values, where it is open, and nothing where it is a wrong use: a private word of this crate.
-use Rattle.std.specs.Prelude.{ℕ, ◌==◌, Option, Some, None, List, [], ◌∷◌, ◌++◌}
+use Rattle.std.specs.Prelude.{ℕ, ◌==◌, Bool, Option, Some, None, List, [], ◌∷◌, ◌++◌}
 use Rattle.std.specs.Int.{w32, int_wrapping_add, int_wrapping_sub, int_wrapping_mul}
 use Rattle.kt_tree.specs.declared.ast.part.Sign.{Sign}
 use Rattle.kt_tree.specs.declared.ast.part.Arithmetic.TheVariants as arithmetic
 use Rattle.kt_model.specs.BodyTrees.{Operation, Sum', Arithmetic', Compare', Equal'}
 use Rattle.kt_mean.specs.Frames.{Run, pure, wrong}
-use Rattle.kt_mean.specs.Evaluation.{choose, signed, print, text_of_value, println_name, print_name}
+use Rattle.kt_mean.specs.Evaluation.{choose, signed, compared, same_value, equal_by, print, text_of_value, println_name, print_name}
 use Rattle.kt_mean.specs.declared.states.Value.{Value}
 use Rattle.kt_mean.specs.declared.states.Value.TheVariants as value
 use Rattle.kt_run.specs.declared.operators.Operator.{Operator}
@@ -22,11 +22,18 @@ abbrev pub combined : Operator → Value → Value → Option Value
 combined operator.Sum (value.Int a) (value.Int b) = Some (value.Int (int_wrapping_add w32 a b))
 combined (operator.Arithmetic arithmetic.Subtract) (value.Int a) (value.Int b) = Some (value.Int (int_wrapping_sub w32 a b))
 combined (operator.Arithmetic arithmetic.Multiply) (value.Int a) (value.Int b) = Some (value.Int (int_wrapping_mul w32 a b))
+combined (operator.Compare o) (value.Int a) (value.Int b) = Some (value.Bool (compared o a b))
+combined (operator.Equal o) a b = Some (value.Bool (equal_by o (same_value a b)))
 combined _ _ _ = None
 
 abbrev pub with_sign : Sign → Value → Option Value
 with_sign s (value.Int a) = Some (value.Int (signed s a))
 with_sign s _ = None
+
+-- the truth of a value, where it is a truth value
+abbrev pub truth_in : Value → Option Bool
+truth_in (value.Bool b) = Some b
+truth_in _ = None
 
 -- the text that a built-in function prints
 abbrev pub printed : ℕ → List Value → Option (List ℕ)

@@ -291,7 +291,7 @@ impl<F> Evaluator<'_, '_, F> {
     {
         match &e.kind {
             ExprKind::Int(number) => int_value(*number),
-            ExprKind::Bool(_) => unreachable!(),
+            ExprKind::Bool(truth) => Ok(Value::Bool(*truth)),
             ExprKind::Null => unreachable!(),
             ExprKind::Name(_) => read_name(self.resolved, state, e.number),
             ExprKind::Template(parts) => self.template(state, out, parts.as_slice()),
@@ -305,17 +305,24 @@ impl<F> Evaluator<'_, '_, F> {
                 Some(_) => unreachable!(),
             },
             ExprKind::Sign(sign, a) => self.signed(state, out, *sign, a),
-            ExprKind::Not(_) => unreachable!(),
+            ExprKind::Not(a) => self.negation(state, out, a),
             ExprKind::Sum(a, b) => self.binary(state, out, Operator::Sum, a, b),
             ExprKind::Arithmetic(o, a, b) => {
                 self.binary(state, out, Operator::Arithmetic(*o), a, b)
             }
             ExprKind::Compare(o, a, b) => self.binary(state, out, Operator::Compare(*o), a, b),
             ExprKind::Equal(o, a, b) => self.binary(state, out, Operator::Equal(*o), a, b),
-            ExprKind::And(_, _) => unreachable!(),
-            ExprKind::Or(_, _) => unreachable!(),
-            ExprKind::If { .. } => unreachable!(),
-            ExprKind::Return { .. } => unreachable!(),
+            ExprKind::And(a, b) => self.conjunction(state, out, a, b),
+            ExprKind::Or(a, b) => self.disjunction(state, out, a, b),
+            ExprKind::If {
+                condition,
+                then,
+                otherwise,
+            } => self.choice(state, out, condition, then, otherwise),
+            ExprKind::Return { label, value } => match label {
+                None => self.give_back(state, out, value),
+                Some(_) => unreachable!(),
+            },
             ExprKind::Throw(_) => unreachable!(),
             _ => unreachable!(),
         }

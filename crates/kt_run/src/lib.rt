@@ -3,6 +3,7 @@
 //! soundness gives of every accepted source.
 #![tactic(auto)]
 
+mod branches;
 mod calls;
 mod evaluator;
 mod frame;

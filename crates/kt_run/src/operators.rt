@@ -1,9 +1,9 @@
 //! What is done with values. There is no answer for a wrong use: each function requires that none comes.
 ghost use Rattle.std.specs.Prelude.{◌≡◌, ◌++◌, ◌∷◌, [], Some, IsSome, IfSome};
-ghost use Rattle.kt_mean.specs.Evaluation.{text_of_value};
+ghost use Rattle.kt_mean.specs.Evaluation.{text_of_value, compared, equal_by, same_value};
 ghost use Rattle.kt_outside.specs.Texts.{PutsAll};
 ghost use Rattle.kt_run.specs.Scene.{Prints};
-ghost use Rattle.kt_run.specs.Operators.{combined, with_sign, printed};
+ghost use Rattle.kt_run.specs.Operators.{combined, with_sign, truth_in, printed};
 
 use crate::state::Halt;
 use itoa::Buffer;
@@ -36,6 +36,52 @@ pub(crate) fn combine(operator: Operator, a: Value, b: Value) -> Value
         (Operator::Arithmetic(Arithmetic::Multiply), Value::Int(a), Value::Int(b)) => {
             Value::Int(a.wrapping_mul(b))
         }
+        (Operator::Compare(o), Value::Int(a), Value::Int(b)) => Value::Bool(compare(o, a, b)),
+        (Operator::Equal(o), a, b) => Value::Bool(is_equal(o, a, b)),
+        _ => unreachable!(),
+    }
+}
+
+fn compare(comparison: Comparison, a: i32, b: i32) -> bool
+    ensures { result ≡ compared comparison a b }
+{
+    match comparison {
+        Comparison::Less => a < b,
+        Comparison::Greater => a > b,
+        Comparison::LessOrEqual => a <= b,
+        Comparison::GreaterOrEqual => a >= b,
+    }
+}
+
+// What `==` and `!=` say of two values.
+fn is_equal(equality: Equality, a: Value, b: Value) -> bool
+    ensures { result ≡ equal_by equality (same_value a b) }
+{
+    let same = is_same(a, b);
+    match equality {
+        Equality::Equal => same,
+        Equality::NotEqual => !same,
+    }
+}
+
+fn is_same(a: Value, b: Value) -> bool
+    ensures { result ≡ same_value a b }
+{
+    match (a, b) {
+        (Value::Unit, Value::Unit) => true,
+        (Value::Bool(a), Value::Bool(b)) => a == b,
+        (Value::Int(a), Value::Int(b)) => a == b,
+        _ => false,
+    }
+}
+
+/// The truth of a value.
+pub(crate) fn truth(value: Value) -> bool
+    requires { IsSome (truth_in value) }
+    ensures { truth_in value ≡ Some result }
+{
+    match value {
+        Value::Bool(truth) => truth,
         _ => unreachable!(),
     }
 }

@@ -1,5 +1,5 @@
 -- A file in which no rule on bodies is violated has an accepted program.
-use Rattle.std.proofs.Common.{◌≡◌, ℕ, Bool, true, false, List, [], ◌∷◌, Contains, Some, IsSome, refl, sym, ap, subst, ◌∙◌, arith}
+use Rattle.std.proofs.Common.{◌≡◌, ℕ, Bool, true, false, List, [], ◌∷◌, Contains, Some, refl, sym, ap, subst, ◌∙◌, arith}
 use Rattle.std.proofs.lemmas.Bool.{false≢true}
 use Rattle.kt_tree.specs.declared.ast.declaration.File.{File}
 use Rattle.kt_model.specs.BodyTrees.{Trees}
@@ -7,20 +7,20 @@ use Rattle.kt_model.specs.ControlFlow.{body_edges}
 use Rattle.kt_model.specs.FlowRules.{assigned_on, IsFlowViolated, unassigned, val_twice}
 use Rattle.kt_model.specs.NameUses.{Resolved}
 use Rattle.kt_model.specs.Outlines.{outlines_of}
-use Rattle.kt_typing.specs.Typing.{signature_of, body_judged}
+use Rattle.kt_typing.specs.Typing.{body_judged}
 use Rattle.kt_model.specs.declared.finding.Finding.{Finding}
 use Rattle.kt_model.specs.declared.graph.Variable.TheVariants.{Local}
 use Rattle.kt_model.specs.declared.uses.Owner.TheVariants as owner
 use Rattle.kt_mean.specs.Evaluation.{Function, Program}
 use Rattle.kt_mean.specs.Programs.{function_at}
 use Rattle.kt_mean.specs.FileRuns.{IsProgram}
-use Rattle.kt_sound.specs.BodySoundness.{HasBuiltInClasses, IsAcceptedBody, IsAcceptedProgram}
+use Rattle.kt_sound.specs.BodySoundness.{HasBuiltInClasses, IsAcceptedBody, IsMainCallable, IsAcceptedProgram}
 use Rattle.kt_sound.specs.FileSoundness.{file_classes, AreBodiesAccepted, FilesNeverWrong}
 use Rattle.kt_sound.specs.FlowOfBody.{IsFine}
 use Rattle.kt_sound.proofs.TypingSteps.{some-some}
 use Rattle.kt_sound.proofs.BodyJoined.{bodies_never}
 use Rattle.kt_sound.proofs.DeadOfFile.{is_function}
-use Rattle.kt_sound.proofs.MainOfFile.{main_signature}
+use Rattle.kt_sound.proofs.MainOfFile.{main_callable}
 use Rattle.kt_sound.proofs.ResolvedBodies.{resolved_body}
 
 -- ---- what is built in
@@ -63,7 +63,7 @@ module _ (file : File) (uses : Resolved) (main : ℕ) (p : Program) (a : AreBodi
       let body = a.bodies place here.there in
       let typed = no_element (body_judged file (file_classes file) uses (owner.Function place)).findings body.typed in
       record {
-        resolved = resolved_body file (file_classes file) uses a.resolved p functions_are place f here.same_body typed;
+        resolved = resolved_body file (file_classes file) uses a.resolved p functions_are (λ x. ap (λ (q : Program). q.written x) is.program) place f here.same_parameters here.same_body typed;
         typed = typed;
         fine = fine_same _ f.parameters _ f.body here.same_parameters here.same_body (fine _ _ body.flows);
       }
@@ -76,7 +76,7 @@ module _ (file : File) (uses : Resolved) (main : ℕ) (p : Program) (a : AreBodi
     is_program = is;
     built_in = built_in file;
     bodies = accepted_body;
-    main = subst (λ m. IsSome (signature_of uses m)) (sym mains_are) (main_signature file uses main a.resolved a.is_main);
+    main = subst (λ m. IsMainCallable uses m) (sym mains_are) (main_callable file uses main a.resolved a.is_main);
   }
 
 pub files_never : FilesNeverWrong

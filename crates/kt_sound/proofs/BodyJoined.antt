@@ -1,5 +1,5 @@
 -- All laws together, and from the entry of each body.
-use Rattle.std.proofs.Common.{IsSome, position, ◌<◌, length, nat_lt, cond, arith, ◌≡◌, ◌⊎◌, ℕ, zero, suc, ◌-◌, ◌==◌, is_some, Bool, true, false, if◌then◌else◌, Option, Some, None, option_map, slice_get, List, [], ◌∷◌, ◌++◌, Contains, inl, inr, refl, sym, ap, subst, ◌∙◌, true≢false}
+use Rattle.std.proofs.Common.{IsSome, position, ◌<◌, length, nat_lt, cond, arith, ◌≡◌, ◌⊎◌, ℕ, zero, suc, ◌-◌, ◌==◌, Bool, true, false, if◌then◌else◌, Option, Some, None, option_map, slice_get, List, [], ◌∷◌, ◌++◌, Contains, inl, inr, refl, sym, ap, subst, ◌∙◌, true≢false}
 use Rattle.std.specs.List.{position_or_len}
 use Rattle.std.proofs.lemmas.Bool.{false≢true, ltb-true}
 use Rattle.kt_tree.specs.declared.ast.declaration.File.{File}
@@ -12,32 +12,33 @@ use Rattle.kt_model.specs.Bodies.{function_trees, body_trees_of}
 use Rattle.kt_model.specs.BodyTrees.{Tree, Trees, Empty', First', expr_tree, Operation', Name', Paren', Not', And', Or', If', Declare', Local', Assign', Compound', Call', Return', Throw', Shut', number}
 use Rattle.kt_model.specs.ControlFlow.{Node, Edge, Exits, in_of, all_edges, entry_of, entry_node, params_node, end_node, on, outside, in_body, body_edges}
 use Rattle.kt_model.specs.declared.kinds.KtType.{KtType}
-use Rattle.kt_model.specs.declared.kinds.Head.{Head}
-use Rattle.kt_model.specs.declared.kinds.Head.TheVariants as head
 use Rattle.kt_typing.specs.declared.claims.Way.{Way}
-use Rattle.kt_typing.specs.declared.claims.Way.TheVariants.{Inferred, Checked}
+use Rattle.kt_typing.specs.declared.claims.Way.TheVariants.{Checked}
 use Rattle.kt_model.specs.declared.uses.Owner.TheVariants as owner
-use Rattle.kt_typing.specs.Typing.{Ways, Each, TypeContext, Signature, Judgements, unit, is_unit, open_signature, signature_of, context_of, parameter_types, value_way, body_ways, function_ways, body_judged, judged, all_judged}
+use Rattle.kt_typing.specs.Typing.{Ways, Each, TypeContext, LocalTypes, Signature, Judgements, unit, is_unit, function_signature, open_signature, signature_of, context_of, parameter_types, value_way, body_ways, function_ways, body_judged, judged, all_judged}
 use Rattle.kt_model.proofs.ListLemmas.{Has, has_contains}
 use Rattle.kt_mean.specs.declared.states.Value.{Value}
 use Rattle.kt_mean.specs.declared.states.Limit.TheVariants as limit
 use Rattle.kt_mean.specs.Frames.{Frame, State, Ending, Gave, Left, Over, Wrong, Run, ◌>>=◌, pure, over, wrong, ending_after, NotWrong}
-use Rattle.kt_mean.specs.Evaluation.{Function, Program, choose, spend, tree_at, entered, eval, invoke}
+use Rattle.kt_mean.specs.Evaluation.{Function, Program, choose, spend, arguments_fit, begun, tree_at, entered, eval, invoke}
 use Rattle.kt_mean.specs.WholeRun.{start}
 use Rattle.kt_model.specs.TreesWithin.{all_trees_in}
-use Rattle.kt_sound.specs.FlowOfBody.{IsFine}
 use Rattle.kt_model.specs.declared.graph.Tag.TheVariants.{In}
 use Rattle.kt_model.specs.BodyPaths.{IsNodePath}
 use Rattle.kt_mean.specs.Programs.{is_expression, function_of, function_at}
 use Rattle.kt_mean.specs.FileRuns.{IsDeadTree}
 use Rattle.kt_sound.specs.BodySoundness.{IsAcceptedBody, IsAcceptedProgram, BodiesNeverWrong}
-use Rattle.kt_sound.proofs.TypingSteps.{none-some, some-some, written_trees}
+use Rattle.kt_sound.proofs.TypingSteps.{none-some, some-some, known_parameters, written_parameters, written_trees}
 use Rattle.kt_sound.proofs.NoFinding.{not_open_none}
-use Rattle.kt_sound.proofs.BodyStanding.{Place, Stands, EachEdge, Within, Post, Eval, Keeps}
-use Rattle.kt_sound.proofs.BodySteps.{within_left, within_right, ready, quiet}
+use Rattle.kt_sound.proofs.ValueTypes.{unit_is}
+use Rattle.kt_sound.proofs.BodyStanding.{Place, Stands, EachEdge, Within, Post, Eval, Keeps, with_result, KeepsEach}
+use Rattle.kt_sound.proofs.BodySteps.{within_left, within_right, leads_of, ready}
 use Rattle.kt_sound.proofs.BodyLaws.{Setting, law_operation, law_name, law_paren}
+use Rattle.kt_sound.proofs.ConditionLaws.{law_not, law_and, law_or}
+use Rattle.kt_sound.proofs.BranchLaws.{law_if, law_return}
 use Rattle.kt_sound.proofs.LocalLaws.{law_declare, law_local, law_assign}
 use Rattle.kt_sound.proofs.CompoundLaw.{law_compound}
+use Rattle.kt_sound.proofs.ParameterLaws.{begun_agrees}
 use Rattle.kt_sound.proofs.CallLaw.{CallPost, CallsKeep, called_ends, some_of, law_call, Callee, callee_post}
 
 -- ---- all forms
@@ -48,16 +49,16 @@ unfolding judged
 keeps_tree p cx set go calls keeps (Operation' n o parts) = law_operation p cx set go keeps n o parts
 keeps_tree p cx set go calls keeps (Name' n at x) = law_name p cx set go n at x
 keeps_tree p cx set go calls keeps (Paren' n e) = law_paren p cx go keeps n e
-keeps_tree p cx set go calls keeps (Not' n e) = λ g context exits way locals s w a st. absurd (not_open_none cx way n locals a.none)
-keeps_tree p cx set go calls keeps (And' n b c) = λ g context exits way locals s w a st. absurd (not_open_none cx way n locals a.none)
-keeps_tree p cx set go calls keeps (Or' n b c) = λ g context exits way locals s w a st. absurd (not_open_none cx way n locals a.none)
-keeps_tree p cx set go calls keeps (If' n c b d) = λ g context exits way locals s w a st. absurd (not_open_none cx way n locals a.none)
+keeps_tree p cx set go calls keeps (Not' n e) = law_not p cx set go keeps n e
+keeps_tree p cx set go calls keeps (And' n b c) = law_and p cx set go keeps n b c
+keeps_tree p cx set go calls keeps (Or' n b c) = law_or p cx set go keeps n b c
+keeps_tree p cx set go calls keeps (If' n c b d) = law_if p cx set go keeps n c b d
 keeps_tree p cx set go calls keeps (Declare' n x) = law_declare p cx set go n x
 keeps_tree p cx set go calls keeps (Local' n at x e) = law_local p cx set go keeps n at x e
 keeps_tree p cx set go calls keeps (Assign' n at x fixed e) = law_assign p cx set go keeps n at x fixed e
 keeps_tree p cx set go calls keeps (Compound' n at x fixed o operand) = law_compound p cx set go keeps n at x fixed o operand
-keeps_tree p cx set go calls keeps (Call' n f returns arguments) = law_call p cx set go calls n f returns arguments
-keeps_tree p cx set go calls keeps (Return' n value) = λ g context exits way locals s w a st. absurd (not_open_none cx way n locals a.none)
+keeps_tree p cx set go calls keeps (Call' n f returns arguments) = law_call p cx set go keeps calls n f returns arguments
+keeps_tree p cx set go calls keeps (Return' n value) = law_return p cx go keeps n value
 keeps_tree p cx set go calls keeps (Throw' n e) = λ g context exits way locals s w a st. absurd (not_open_none cx way n locals a.none)
 keeps_tree p cx set go calls keeps (Shut' n) = λ g context exits way locals s w a st. absurd (not_open_none cx way n locals a.none)
 
@@ -78,25 +79,28 @@ spent_post g exits way found r s false h = h
 
 -- what a call of each function of the program needs
 abbrev Callees : (p : Program) (cx : TypeContext) → Type 0
-Callees p cx = (place : ℕ) (f : Function) (s : Signature) → p.functions place ≡ Some f → cx.signature place ≡ Some s → Callee p cx f × ((s.most ≡ 0) × (s.result ≡ unit))
+Callees p cx = (place : ℕ) (f : Function) (s : Signature) → p.functions place ≡ Some f → cx.signature place ≡ Some s
+    → Callee p cx f × (s ≡ function_signature cx.written f.parameters unit)
 
-calls_keep : (p : Program) (cx : TypeContext) → Callees p cx → (go : Eval) → Keeps p cx go → CallsKeep p cx go
-calls_keep p cx callees go keeps place f s e i =
-    let c = callees place f s e i in
-    record { parameters = c.0.parameters; most = c.1.0; result = c.1.1; post = callee_post go keeps f c.0 }
+calls_keep : (p : Program) (cx : TypeContext) → Callees p cx → (go : Eval) → KeepsEach p cx go → CallsKeep p cx go
+calls_keep p cx callees go keeps place f s e i = let c = callees place f s e i in record { signature = c.1; post = callee_post go keeps f c.0 }
 
--- The induction is on the number alone.
-keeps_eval : (p : Program) (cx : TypeContext) → Setting p cx → Callees p cx → (depth : ℕ) → Keeps p cx (eval p depth)
+setting_of : (p : Program) (cx : TypeContext) → Setting p cx → (result : Option KtType) → Setting p (with_result cx result)
+setting_of p cx set result = record { built_in = set.built_in; written = set.written }
+
+-- The induction is on the number alone, for bodies of functions with any result.
+keeps_eval : (p : Program) (cx : TypeContext) → Setting p cx → Callees p cx → (depth : ℕ) → KeepsEach p cx (eval p depth)
 unfolding eval entered ◌>>=◌ spend over
-keeps_eval p cx set callees zero t g context exits way locals s w a st = tt
-keeps_eval p cx set callees (suc depth) t g context exits way locals s w a st =
+keeps_eval p cx set callees zero result t g context exits way locals s w a st = tt
+keeps_eval p cx set callees (suc depth) result t g context exits way locals s w a st =
     let go = eval p depth in
     let keeps = keeps_eval p cx set callees depth in
+    let here = with_result cx result in
     let s' = record s { steps = s.steps - 1 } in
-    let found = (judged cx way locals t).found in
+    let found = (judged here way locals t).found in
     spent_post g exits way found (choose (p.dead (number t)) wrong (tree_at p go t)) s (s.steps == 0)
     (alive_post g exits way found (p.dead (number t)) (tree_at p go t) s' (g.alive (in_of context.copy t) st.path st.is_path refl)
-    (keeps_tree p cx set go (calls_keep p cx callees go keeps) keeps t g context exits way locals s' w a (record { path = st.path; is_path = st.is_path; agrees = st.agrees })))
+    (keeps_tree p here (setting_of p cx set result) go (calls_keep p cx callees go keeps) (keeps result) t g context exits way locals s' w a (record { path = st.path; is_path = st.is_path; agrees = st.agrees })))
 
 -- ---- from the entry of a body
 
@@ -108,82 +112,76 @@ each_among all (e ∷ es) h = (h e (inl refl), each_among all es (λ d i. h d (i
 all_within : (es : List Edge) → Within es es
 all_within es = record { each = each_among es es (λ e i. has_contains es e i) }
 
--- what can be called: a function without parameters whose result is `Unit`
-pub record Open (parameters : List ℕ) (result : Option KtType) (s : Signature) : Type 0 where
-  pub none : parameters ≡ []
+-- what can be called: a function whose result is `Unit`
+pub record Open (written : ℕ → Option KtType) (parameters : List ℕ) (result : Option KtType) (s : Signature) : Type 0 where
   pub unit_result : result ≡ Some unit
-  pub most : s.most ≡ 0
-  pub gives : s.result ≡ unit
+  pub signature : s ≡ function_signature written parameters unit
 
-unit_is : (h : Head) (nullable : Bool) → is_unit (record { head = h; nullable = nullable }) ≡ true → record { head = h; nullable = nullable } ≡ unit
-unit_is head.Any b e = absurd (false≢true e)
-unit_is head.Nothing b e = absurd (false≢true e)
-unit_is head.Unit true e = absurd (false≢true e)
-unit_is head.Unit false e = refl
-unit_is head.Boolean b e = absurd (false≢true e)
-unit_is head.Int b e = absurd (false≢true e)
-unit_is head.Str b e = absurd (false≢true e)
-unit_is (head.Class c) b e = absurd (false≢true e)
-
-pub open_is : (parameters : List ℕ) (result : Option KtType) (s : Signature) → open_signature parameters result ≡ Some s → Open parameters result s
-open_is [] None s e = absurd (none-some s e)
-open_is [] (Some t) s e = by (is_unit t) refl e
+pub open_is : (written : ℕ → Option KtType) (parameters : List ℕ) (result : Option KtType) (s : Signature) → open_signature written parameters result ≡ Some s → Open written parameters result s
+open_is written parameters None s e = absurd (none-some s e)
+open_is written parameters (Some t) s e = by (is_unit t) refl e
   where
-    by : (b : Bool) → is_unit t ≡ b → (if b then Some (record { least = 0; most = 0; ways = Each Inferred; result = unit }) else None) ≡ Some s → Open [] (Some t) s
-    by true i j =
-        let same = some-some _ s j in
-        record { none = refl; unit_result = ap (λ z. Some z) (unit_is t.head t.nullable i); most = ap (λ (z : Signature). z.most) (sym same); gives = ap (λ (z : Signature). z.result) (sym same) }
+    by : (b : Bool) → is_unit t ≡ b → (if b then Some (function_signature written parameters unit) else None) ≡ Some s → Open written parameters (Some t) s
+    by true i j = record { unit_result = ap (λ z. Some z) (unit_is t.head t.nullable i); signature = sym (some-some _ s j) }
     by false i j = absurd (none-some s j)
-open_is (x ∷ xs) None s e = absurd (none-some s e)
-open_is (x ∷ xs) (Some t) s e = absurd (none-some s e)
 
 -- ---- the functions of a program
 
 module _ (file : File) (classes : Classes) (uses : Resolved) (p : Program) (a : IsAcceptedProgram file classes uses p) where
   abbrev context : TypeContext
-  context = context_of classes uses
+  context = context_of classes uses (owner.Function p.main)
 
-  -- the trees and ways of the body of a function without parameters
+  -- that of a body
+  abbrev context_at : ℕ → TypeContext
+  context_at place = context_of classes uses (owner.Function place)
+
+  abbrev parameters_of : ℕ → List ℕ
+  parameters_of place = parameters_at uses place
+
+  -- the types of its parameters, and its trees and ways
+  abbrev types_of : ℕ → LocalTypes
+  types_of place = parameter_types (context_at place) [] (parameters_of place)
+
   abbrev trees_of : FunctionDecl → Trees
   trees_of d = body_trees_of (named_at uses) d.body
 
   abbrev ways_of : ℕ → FunctionDecl → Ways
   ways_of place d = body_ways (declaration_type uses (function_place place)) d.body
 
-  judged_of : (place : ℕ) (d : FunctionDecl) → slice_get file.functions place ≡ Some d → parameters_at uses place ≡ []
-      → body_judged file classes uses (owner.Function place) ≡ all_judged context (ways_of place d) [] (trees_of d)
+  judged_of : (place : ℕ) (d : FunctionDecl) → slice_get file.functions place ≡ Some d
+      → body_judged file classes uses (owner.Function place) ≡ all_judged (context_at place) (ways_of place d) (types_of place) (trees_of d)
   unfolding body_judged
-  judged_of place d e none =
-      ap (λ o. all_judged context (function_ways (declaration_type uses (function_place place)) o) (parameter_types context [] (parameters_at uses place)) (function_trees (named_at uses) o)) e
-      ∙ ap (λ xs. all_judged context (ways_of place d) (parameter_types context [] xs) (trees_of d)) none
+  judged_of place d e =
+      ap (λ o. all_judged (context_at place) (function_ways (declaration_type uses (function_place place)) o) (types_of place) (function_trees (named_at uses) o)) e
 
-  abbrev edges_of : FunctionDecl → List Edge
-  edges_of d = body_edges [] (trees_of d)
+  abbrev edges_of : ℕ → FunctionDecl → List Edge
+  edges_of place d = body_edges (parameters_of place) (trees_of d)
 
   functions_are : (place : ℕ) → p.functions place ≡ function_at file uses place
   functions_are place = ap (λ (q : Program). q.functions place) a.is_program.program
 
-  -- a tree that is entered along a path is not marked as dead
-  alive_at : (place : ℕ) (d : FunctionDecl) → slice_get file.functions place ≡ Some d → parameters_at uses place ≡ [] → (n : Node) (path : List Node) → IsNodePath (edges_of d) (n ∷ path) → n.tag ≡ In
-      → (b : Bool) → p.dead n.tree ≡ b → b ≡ false
-  alive_at place d e none n path walked tag false i = refl
-  alive_at place d e none n path walked tag true i =
-      let dead : IsDeadTree file uses n.tree = (a.is_program.is_dead n.tree).0 (sym (ap (λ (q : Program). q.dead n.tree) a.is_program.program) ∙ i) in
-      absurd (dead.unreached place (function_of uses place d) n path (ap (λ o. option_map (function_of uses place) o) e)
-      (subst (λ xs. IsNodePath (body_edges xs (trees_of d)) (n ∷ path)) (sym none) walked) refl tag)
+  written_are : (x : ℕ) → p.written x ≡ declaration_type uses x
+  written_are x = ap (λ (q : Program). q.written x) a.is_program.program
 
-  -- the place of a function that can be called
-  place_of : (place : ℕ) (d : FunctionDecl) → slice_get file.functions place ≡ Some d → parameters_at uses place ≡ [] → IsAcceptedBody file classes uses p place (function_of uses place d) → Place p context
-  place_of place d e none accepted = record {
-    edges = edges_of d;
+  -- a tree that is entered along a path is not marked as dead
+  alive_at : (place : ℕ) (d : FunctionDecl) → slice_get file.functions place ≡ Some d → (n : Node) (path : List Node) → IsNodePath (edges_of place d) (n ∷ path) → n.tag ≡ In
+      → (b : Bool) → p.dead n.tree ≡ b → b ≡ false
+  alive_at place d e n path walked tag false i = refl
+  alive_at place d e n path walked tag true i =
+      let dead : IsDeadTree file uses n.tree = (a.is_program.is_dead n.tree).0 (sym (ap (λ (q : Program). q.dead n.tree) a.is_program.program) ∙ i) in
+      absurd (dead.unreached place (function_of uses place d) n path (ap (λ o. option_map (function_of uses place) o) e) walked refl tag)
+
+  -- the place of a function
+  place_of : (place : ℕ) (d : FunctionDecl) → slice_get file.functions place ≡ Some d → IsAcceptedBody file classes uses p place (function_of uses place d) → Place p (context_at place)
+  place_of place d e accepted = record {
+    edges = edges_of place d;
     body = trees_of d;
-    locals = (all_judged context (ways_of place d) [] (trees_of d)).locals;
-    result = Some unit;
-    fine = subst (λ xs. IsFine (body_edges xs (trees_of d)) (trees_of d)) none accepted.fine;
-    alive = λ n path walked tag. alive_at place d e none n path walked tag (p.dead n.tree) refl;
+    locals = (all_judged (context_at place) (ways_of place d) (types_of place) (trees_of d)).locals;
+    fine = accepted.fine;
+    alive = λ n path walked tag. alive_at place d e n path walked tag (p.dead n.tree) refl;
     calls = accepted.resolved.calls;
     returns = accepted.resolved.returns;
-    as_written = written_trees context (ways_of place d) [] (trees_of d) (λ x t w e. absurd (none-some (Some t) e));
+    as_written = written_trees (context_at place) (ways_of place d) (types_of place) (trees_of d) (written_parameters (context_at place) [] (parameters_of place) (λ x t w e. absurd (none-some (Some t) e)));
   }
 
   form_of : (body : Option FunctionBody) (result : Option KtType) → result ≡ Some unit
@@ -192,37 +190,35 @@ module _ (file : File) (classes : Classes) (uses : Resolved) (p : Program) (a : 
   form_of (Some (written.Expr t)) result e = inr (expr_tree (named_at uses) t, (refl, ap (λ o. Each (value_way o)) e))
   form_of (Some (written.Block contract block)) result e = inl refl
 
-  callee_of : (place : ℕ) (d : FunctionDecl) (s : Signature) → slice_get file.functions place ≡ Some d → Open (parameters_at uses place) (declaration_type uses (function_place place)) s
+  callee_of : (place : ℕ) (d : FunctionDecl) (s : Signature) → slice_get file.functions place ≡ Some d
+      → Open (declaration_type uses) (parameters_of place) (declaration_type uses (function_place place)) s
       → IsAcceptedBody file classes uses p place (function_of uses place d) → Callee p context (function_of uses place d)
   unfolding place_of
   callee_of place d s e can accepted =
-      let here = place_of place d e can.none accepted in
-      let all = all_within (edges_of d) in
-      let first = on outside entry_node (params_node [] ∷ []) in
-      let second = on outside (params_node []) (entry_of 0 (end_node ∷ []) (trees_of d)) in
+      let here = place_of place d e accepted in
+      let params = params_node (parameters_of place) in
+      let all = all_within (edges_of place d) in
+      let first = on outside entry_node (params ∷ []) in
+      let second = on outside params (entry_of 0 (end_node ∷ []) (trees_of d)) in
       let third = all_edges in_body (end_node ∷ []) (trees_of d) in
       let rest = within_right first (second ++ third) all in
       record {
         place = here;
         ways = ways_of place d;
-        parameters = can.none;
+        types = types_of place;
         result = can.unit_result;
-        place_result = refl;
         within = within_right second third rest;
-        begins = λ st locals.
-            let at_entry : Stands here entry_node st = record {
-              path = [];
-              is_path = refl;
-              agrees = record {
-                held = λ x. ap (λ (ls : ℕ → Option Value). is_some (ls x)) locals;
-                typed = λ x v t i j. absurd (none-some v (sym (ap (λ (ls : ℕ → Option Value). ls x) locals) ∙ i));
-              };
+        begins = λ vs st fit.
+            let at_params : Stands here params (begun (function_of uses place d) vs st) = record {
+              path = entry_node ∷ [];
+              is_path = ((leads_of outside entry_node (params ∷ []) (within_left first (second ++ third) all)).0, refl);
+              agrees = begun_agrees (declaration_type uses) p.written written_are here.locals (parameters_of place) vs fit
+                  (λ y i. accepted.resolved.typed_parameters y (has_contains (parameters_of place) y i)) here.as_written;
             } in
-            let at_params : Stands here (params_node []) st = quiet {ms = []} (λ x b. refl) (ready outside (params_node [] ∷ []) (within_left first (second ++ third) all) at_entry) in
             ready outside (entry_of 0 (end_node ∷ []) (trees_of d)) (within_left second third rest) at_params;
         accepted = record {
-          known = λ x i. absurd (none-some None i);
-          none = subst (λ (j : Judgements). j.findings ≡ []) (judged_of place d e can.none) accepted.typed;
+          known = known_parameters (context_at place) [] (parameters_of place) (λ x i. absurd (none-some None i));
+          none = subst (λ (j : Judgements). j.findings ≡ []) (judged_of place d e) accepted.typed;
           covered = λ x u i. i;
           inside = λ u i. has_contains (all_trees_in (trees_of d)) u i;
         };
@@ -233,12 +229,13 @@ module _ (file : File) (classes : Classes) (uses : Resolved) (p : Program) (a : 
   unfolding signature_of
   callees_of place f s e i = by (slice_get file.functions place) refl
     where
-      by : (o : Option FunctionDecl) → slice_get file.functions place ≡ o → Callee p context f × ((s.most ≡ 0) × (s.result ≡ unit))
+      by : (o : Option FunctionDecl) → slice_get file.functions place ≡ o → Callee p context f × (s ≡ function_signature (declaration_type uses) f.parameters unit)
       by None g = absurd (none-some f (sym (functions_are place ∙ ap (λ z. option_map (function_of uses place) z) g) ∙ e))
       by (Some d) g =
           let same : function_of uses place d ≡ f = some-some (function_of uses place d) f (sym (functions_are place ∙ ap (λ z. option_map (function_of uses place) z) g) ∙ e) in
-          let can = open_is (parameters_at uses place) (declaration_type uses (function_place place)) s i in
-          (subst (λ z. Callee p context z) same (callee_of place d s g can (subst (λ z. IsAcceptedBody file classes uses p place z) (sym same) (a.bodies place f (sym (functions_are place) ∙ e)))), (can.most, can.gives))
+          let can = open_is (declaration_type uses) (parameters_of place) (declaration_type uses (function_place place)) s i in
+          subst (λ z. Callee p context z × (s ≡ function_signature (declaration_type uses) z.parameters unit)) same
+          (callee_of place d s g can (subst (λ z. IsAcceptedBody file classes uses p place z) (sym same) (a.bodies place f (sym (functions_are place) ∙ e))), can.signature)
 
 -- ---- a whole run
 
@@ -271,13 +268,18 @@ not_wrong here (Left k s) h = tt
 not_wrong here (Over l) h = tt
 not_wrong here Wrong h = h
 
+-- of no parameters there is no value
+none_fit : (written : ℕ → Option KtType) (xs : List ℕ) → length xs ≡ 0 → arguments_fit written xs [] ≡ true
+none_fit written [] e = refl
+none_fit written (x ∷ xs) e = absurd (omega (arith, e))
+
 pub bodies_never : BodiesNeverWrong
 bodies_never file classes uses p steps input a =
-    let cx = context_of classes uses in
-    let set : Setting p cx = record { built_in = a.built_in; written = λ x. ap (λ (q : Program). q.written x) a.is_program.program } in
+    let cx = context_of classes uses (owner.Function p.main) in
+    let set : Setting p cx = record { built_in = a.built_in; written = written_are file classes uses p a } in
     let callees = callees_of file classes uses p a in
     let f = some_of (p.functions p.main) (has_main file classes uses p a) in
-    let s = some_of (signature_of uses p.main) a.main in
-    let kept = calls_keep p cx callees (eval p steps) (keeps_eval p cx set callees steps) p.main f.0 s.0 f.1 s.1 in
-    called_ends (λ (e : Ending Value). NotWrong e) p (eval p steps) (p.functions p.main) f.0 (start steps input) f.1 kept.parameters tt
-    (not_wrong (start steps input).here (invoke p (eval p steps) f.0 [] (start steps input)).ending (kept.post (start steps input)))
+    let kept = calls_keep p cx callees (eval p steps) (keeps_eval p cx set callees steps) p.main f.0 a.main.signature f.1 a.main.is in
+    let fit = none_fit p.written f.0.parameters (sym (ap (λ (s : Signature). s.most) kept.signature) ∙ a.main.takes_nothing) in
+    called_ends (λ (e : Ending Value). NotWrong e) p (eval p steps) (p.functions p.main) f.0 [] (start steps input) f.1 fit tt
+    (not_wrong (start steps input).here (invoke p (eval p steps) f.0 [] (start steps input)).ending (kept.post [] (start steps input) fit))

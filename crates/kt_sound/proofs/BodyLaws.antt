@@ -9,7 +9,7 @@ use Rattle.kt_typing.specs.declared.claims.Way.{Way}
 use Rattle.kt_typing.specs.declared.claims.Way.TheVariants.{Unvalued, Plain, Inferred, Checked}
 use Rattle.kt_typing.specs.declared.claims.Claim.{Claim}
 use Rattle.kt_typing.specs.declared.claims.Claim.TheVariants as claim
-use Rattle.kt_typing.specs.Typing.{Each, TypeContext, look_up, no_trees, closed, have_types, count, operation_demand, is_text, first_of, name_claim, inside, judged, all_judged, Judgements}
+use Rattle.kt_typing.specs.Typing.{Each, TypeContext, look_up, no_trees, closed, have_types, count, operation_demand, is_text, first_of, apart, name_claim, inside, judged, all_judged, Judgements}
 use Rattle.kt_model.proofs.ListLemmas.{Has}
 use Rattle.kt_mean.specs.declared.states.Value.{Value}
 use Rattle.kt_mean.specs.declared.states.Way.TheVariants.{Return}
@@ -48,7 +48,8 @@ law_operation p cx set go keeps n o parts g context exits way locals s w a st =
     let t = Operation' n o parts in
     let out = out_of context.copy t in
     let text = is_text (first_of (all_judged cx (Each Inferred) locals parts).each_found) in
-    let demand = operation_demand n o text (count parts) in
+    let differ = apart (all_judged cx (Each Plain) locals parts).each_found in
+    let demand = operation_demand n o text differ (count parts) in
     let inner = all_judged cx demand.ways locals parts in
     let returns = g.returns t (a.inside t (inl refl)) in
     let ws = subst (λ b. Within g.edges (enter context t (entry_of context.copy (if_returns b out) parts) ++ (all_edges context (if_returns b out) parts ++ leave_edges context t exits))) returns w in
@@ -56,13 +57,13 @@ law_operation p cx set go keeps n o parts g context exits way locals s w a st =
     let w1 = within_right (enter context t (entry_of context.copy (out ∷ []) parts)) (all_edges context (out ∷ []) parts ++ leave_edges context t exits) ws in
     let none = parts_none cx way n inner demand.claim a.none in
     let types = (typed_trees cx demand.ways locals parts a.known none).types in
-    let h = closed_stood cx way n inner demand.claim types (operation_decided n o text (count parts)) a.none in
+    let h = closed_stood cx way n inner demand.claim types (operation_decided n o text differ (count parts)) a.none in
     values_post go keeps parts g context exits way (closed cx way n inner demand.claim).found demand.ways locals (out ∷ []) s (operated o)
     (within_left (all_edges context (out ∷ []) parts) (leave_edges context t exits) w1)
     (record { known = a.known; none = none; covered = a.covered; inside = λ u i. a.inside u (inr i) })
     (ready context (entry_of context.copy (out ∷ []) parts) w0 st)
     (λ vs s' r all.
-    yields_post g context t exits way (closed cx way n inner demand.claim).found h.type (operated o vs) s' (operation_yields cx n o text locals parts h.type vs (λ e. e) h.gives all)
+    yields_post g context t exits way (closed cx way n inner demand.claim).found h.type (operated o vs) s' (operation_yields cx n o text differ locals parts h.type vs (λ e. e) h.gives all)
     (within_right (all_edges context (out ∷ []) parts) (leave_edges context t exits) w1) (quiet (λ x b. refl) r) (value_gives cx set way n inner demand.claim types h))
 
 -- ---- names

@@ -24,12 +24,12 @@ use Rattle.kt_sound.proofs.ValueTypes.{Lies}
 
 -- ---- places
 
--- Where a tree is evaluated: the graph and the trees of the body under way, which the rules accept, the types of its locals, and its function's result.
+-- Where a tree is evaluated: the graph and the trees of the body under way, which the rules accept, and the types of its locals. Its function's result stands
+-- in `cx`.
 pub record Place (p : Program) (cx : TypeContext) : Type 0 where
   pub edges : List Edge
   pub body : Trees
   pub locals : LocalTypes
-  pub result : Option KtType
   pub fine : IsFine edges body
   pub alive : (n : Node) (path : List Node) → IsNodePath edges (n ∷ path) → n.tag ≡ In → p.dead n.tree ≡ false
   pub calls : (t : Tree) (f : ℕ) → Contains (all_trees_in body) t → called_by t ≡ Some f → IsSome (p.functions f)
@@ -117,10 +117,10 @@ goes (Branch on_true on_false) v = pick (is_true v) on_true on_false
 
 -- Where the frame stands after an evaluation, and what its value is, by how it ended. What is returned fits the function's result.
 abbrev pub Post : {p : Program} {cx : TypeContext} → Place p cx → Exits → Way → Option KtType → Ending Value → Type 0
-Post g exits way found (Gave v s) = Ready g (goes exits v) s × Gives way found v
-Post g exits way found (Left (Return v) s) = fits g.result v ≡ true
-Post g exits way found (Over k) = ⊤
-Post g exits way found Wrong = ⊥
+Post {p} {cx} g exits way found (Gave v s) = Ready g (goes exits v) s × Gives way found v
+Post {p} {cx} g exits way found (Left (Return v) s) = fits cx.result v ≡ true
+Post {p} {cx} g exits way found (Over k) = ⊤
+Post {p} {cx} g exits way found Wrong = ⊥
 
 abbrev pub Eval : Type 0
 Eval = Tree → Run Value
@@ -133,3 +133,11 @@ KeepsAt p cx f t =
 
 abbrev pub Keeps : (p : Program) (cx : TypeContext) → Eval → Type 0
 Keeps p cx f = (t : Tree) → KeepsAt p cx f t
+
+-- the same context, but for the result of the function whose body it is
+abbrev pub with_result : TypeContext → Option KtType → TypeContext
+with_result cx result = record cx { result = result }
+
+-- whatever that result
+abbrev pub KeepsEach : (p : Program) (cx : TypeContext) → Eval → Type 0
+KeepsEach p cx f = (result : Option KtType) → Keeps p (with_result cx result) f

@@ -1,5 +1,5 @@
 -- Steps along edges, and how a tree's end follows from its parts'.
-use Rattle.std.proofs.Common.{ap, ◌≡◌, ℕ, nat_eq, is_some, Bool, true, false, if◌then◌else◌, Option, Some, List, [], ◌∷◌, ◌++◌, ◌⊎◌, inl, inr, refl, sym, subst, ◌∙◌}
+use Rattle.std.proofs.Common.{ap, ◌≡◌, ℕ, nat_eq, is_some, Bool, true, false, if◌then◌else◌, Option, Some, None, List, [], ◌∷◌, ◌++◌, ◌⊎◌, inl, inr, refl, sym, subst, ◌∙◌}
 use Rattle.std.proofs.lemmas.Bool.{cases_Bool, eqb-true, eqb-false, eq-eqb, ne_eqb}
 use Rattle.kt_model.specs.BodyTrees.{Tree, Trees, Empty', First', Operation', Name', Paren', Not', And', Or', If', Declare', Local', Assign', Compound', Call', Return', Throw', Shut'}
 use Rattle.kt_model.specs.ControlFlow.{Node, Edge, FlowContext, Exits, Then, Branch, in_of, out_of, assume, lead, on, leave_edges, edges, all_edges, entry_of}
@@ -8,12 +8,13 @@ use Rattle.kt_model.specs.declared.graph.Variable.{Variable}
 use Rattle.kt_model.specs.declared.graph.Variable.TheVariants.{Local}
 use Rattle.kt_model.specs.declared.kinds.KtType.{KtType}
 use Rattle.kt_typing.specs.declared.claims.Way.{Way}
+use Rattle.kt_typing.specs.declared.claims.Way.TheVariants.{Unvalued}
 use Rattle.kt_typing.specs.Typing.{TypeContext, LocalTypes, Ways, first_way, rest_ways, look_up, judged, all_judged}
 use Rattle.kt_model.proofs.ListLemmas.{has_left, has_right}
 use Rattle.kt_mean.specs.declared.states.Value.{Value}
 use Rattle.kt_mean.specs.declared.states.Way.TheVariants.{Return}
-use Rattle.kt_mean.specs.Frames.{with_local, Frame, State, Ending, Gave, Left, Over, Wrong, Run, ◌>>=◌, ending_after}
-use Rattle.kt_mean.specs.Evaluation.{Program, with_values}
+use Rattle.kt_mean.specs.Frames.{with_local, Frame, State, Ending, Gave, Left, Over, Wrong, Run, ◌>>=◌, pure, ending_after}
+use Rattle.kt_mean.specs.Evaluation.{Program, with_values, block_from}
 use Rattle.kt_model.specs.TreesWithin.{trees_in, all_trees_in}
 use Rattle.kt_model.specs.FlowRules.{assigned_on}
 use Rattle.kt_sound.proofs.TypingSteps.{none_in, kept_trees}
@@ -47,7 +48,7 @@ leads_of {all} context n ms w = leads_to all n ms (left_each all (lead n ms) _ w
 
 -- ---- effects
 
-nat_eq-sym : (x y : ℕ) → nat_eq x y ≡ nat_eq y x
+pub nat_eq-sym : (x y : ℕ) → nat_eq x y ≡ nat_eq y x
 nat_eq-sym x y = elim (cases_Bool (nat_eq x y)) [
   | inl e ↦ e ∙ sym (eq-eqb y x (sym (eqb-true x y e)))
   | inr e ↦ e ∙ sym (ne_eqb y x (λ i. eqb-false x y e (sym i)))
@@ -185,3 +186,16 @@ values_post {p} {cx} go keeps (First' t rest) g context exits way found ways loc
     (λ v s' r' gives.
     values_post go keeps rest g context exits way found (rest_ways ways) first.locals next s' (λ vs. k (v ∷ vs)) (within_right (edges context (Then after) t) (all_edges context next rest) w)
     (accepted_rest g ways locals t rest a) r' (λ vs s'' r'' all. h (v ∷ vs) s'' r'' (gives, all)))
+
+-- the statements of a block, whose values nobody takes
+pub block_post : {p : Program} {cx : TypeContext} (go : Eval) → Keeps p cx go → (ts : Trees) (g : Place p cx) (context : FlowContext) (ways : Ways) (locals : LocalTypes) (next : List Node) (v : Value) (s : State)
+    → Within g.edges (all_edges context next ts) → AllAccepted g ways locals ts → Ready g (entry_of context.copy next ts) s → Post g (Then next) Unvalued None (block_from p go v ts s).ending
+unfolding all_edges ◌>>=◌ pure
+block_post go keeps Empty' g context ways locals next v s w a r = (r, tt)
+block_post {p} {cx} go keeps (First' t rest) g context ways locals next v s w a r =
+    let after = entry_of context.copy next rest in
+    let first = judged cx (first_way ways) locals t in
+    value_post g after (Then next) Unvalued (first_way ways) None first.found (go t s).ending (λ u. block_from p go u rest)
+    (keeps t g context (Then after) (first_way ways) locals s (within_left (edges context (Then after) t) (all_edges context next rest) w) (accepted_first g ways locals t rest a) (enters context.copy t r))
+    (λ u s' r' gives.
+    block_post go keeps rest g context (rest_ways ways) first.locals next u s' (within_right (edges context (Then after) t) (all_edges context next rest) w) (accepted_rest g ways locals t rest a) r')

@@ -7,6 +7,9 @@ pub mod Operations
 pub mod BodyLaws
 pub mod LocalLaws
 pub mod CompoundLaw
+pub mod ConditionLaws
+pub mod BranchLaws
+pub mod ParameterLaws
 pub mod CallLaw
 pub mod BodyJoined
 pub mod NamedCalls
@@ -15,6 +18,7 @@ pub mod OneFile
 pub mod DeadOfFile
 pub mod SignedCalls
 pub mod Declared
+pub mod TypedParameters
 pub mod ResolvedBodies
 pub mod MainOfFile
 pub mod AcceptedFile

@@ -1,5 +1,5 @@
 -- The `main` of a file can be called: it takes nothing and gives `Unit`.
-use Rattle.std.proofs.Common.{◌≡◌, ◌+◌, ℕ, suc, zero, Bool, true, false, ◌&&◌, ◌==◌, not, if◌then◌else◌, List, [], ◌∷◌, Option, Some, None, IsSome, position, slice_get, unwrap_or, refl, sym, ap, subst, ◌∙◌}
+use Rattle.std.proofs.Common.{◌≡◌, ◌+◌, ℕ, suc, zero, Bool, true, false, ◌&&◌, ◌==◌, not, if◌then◌else◌, List, [], ◌∷◌, Option, Some, None, length, position, slice_get, unwrap_or, refl, ap, subst, ◌∙◌}
 use Rattle.std.specs.List.{flat_map, range_with_len}
 use Rattle.std.proofs.lemmas.Bool.{false≢true}
 use Rattle.std.proofs.lemmas.Option.{get_or_from_slice_get}
@@ -10,15 +10,15 @@ use Rattle.kt_tree.specs.declared.ast.declaration.FunctionDecl.{FunctionDecl}
 use Rattle.kt_tree.specs.declared.ast.part.TypeRef.{TypeRef}
 use Rattle.kt_model.specs.DeclarationRules.{is_unit, has_unit_result, has_none, is_main}
 use Rattle.kt_model.specs.NameEvents.{parameter_events, function_events}
-use Rattle.kt_model.specs.NameUses.{Resolved, parameters_at, declaration_type, function_place}
+use Rattle.kt_model.specs.NameUses.{Resolved, parameters_at, declaration_type}
 use Rattle.kt_model.specs.Outlines.{result_by}
 use Rattle.kt_model.specs.Scopes.{IsResolved, declared_count, first_variable, parameters_from}
 use Rattle.kt_model.specs.TopNames.{Tops, top_names, head_named}
-use Rattle.kt_typing.specs.Typing.{unit, open_signature, signature_of}
+use Rattle.kt_typing.specs.Typing.{unit, function_signature, open_signature, signature_of}
 use Rattle.kt_model.specs.declared.kinds.Head.{Head}
 use Rattle.kt_model.specs.declared.kinds.Head.TheVariants as head
-use Rattle.kt_model.specs.declared.kinds.KtType.{KtType}
 use Rattle.kt_mean.specs.Programs.{main_of}
+use Rattle.kt_sound.specs.BodySoundness.{IsMainCallable}
 use Rattle.kt_sound.proofs.TypingSteps.{none-some, some-some}
 use Rattle.kt_sound.proofs.DeadOfFile.{got}
 use Rattle.kt_sound.proofs.Declared.{function_type}
@@ -78,14 +78,15 @@ takes_nothing tops f e =
     let both = both_true (f.name.name == tops.main) (has_none f.parameters) all.0 in
     record { none = no_parameters f.parameters both.1; gives = unit_result tops f.result f.body all.1 }
 
-opens : (xs : List ℕ) (result : Option KtType) → xs ≡ [] → result ≡ Some unit → IsSome (open_signature xs result)
-opens xs result e f = subst (λ z. IsSome (open_signature z result)) (sym e) (subst (λ o. IsSome (open_signature [] o)) (sym f) refl)
-
-pub main_signature : (file : File) (uses : Resolved) (main : ℕ) → IsResolved file uses → main_of file ≡ Some main → IsSome (signature_of uses main)
+pub main_callable : (file : File) (uses : Resolved) (main : ℕ) → IsResolved file uses → main_of file ≡ Some main → IsMainCallable uses main
 unfolding signature_of
-main_signature file uses main r e =
+main_callable file uses main r e =
     let f = passing (is_main (top_names file)) file.functions main e in
     let can = takes_nothing (top_names file) f.0 f.1.1 in
-    opens (parameters_at uses main) (declaration_type uses (function_place main))
-    (ap (λ ps. unwrap_or (slice_get ps main) []) r.same_parameters ∙ ap (λ o. unwrap_or o []) (none_declared (first_variable (top_names file)) file.functions main f.0 f.1.0 can.none))
-    (function_type file uses r main f.0 f.1.0 ∙ can.gives)
+    let none : parameters_at uses main ≡ [] =
+    ap (λ ps. unwrap_or (slice_get ps main) []) r.same_parameters ∙ ap (λ o. unwrap_or o []) (none_declared (first_variable (top_names file)) file.functions main f.0 f.1.0 can.none) in
+    record {
+      signature = function_signature (declaration_type uses) (parameters_at uses main) unit;
+      is = ap (λ o. open_signature (declaration_type uses) (parameters_at uses main) o) (function_type file uses r main f.0 f.1.0 ∙ can.gives);
+      takes_nothing = ap (λ xs. length xs) none;
+    }

@@ -1,6 +1,7 @@
 -- Where no typing rule is violated, each tree has a type, and so has each local.
-use Rattle.std.proofs.Common.{◌≡◌, ℕ, ◌==◌, nat_le, cond, ◌&&◌, Bool, true, false, Option, Some, None, List, [], ◌∷◌, option_map, refl, sym, ap, subst, ◌∙◌}
+use Rattle.std.proofs.Common.{◌≡◌, ℕ, zero, suc, ◌==◌, nat_le, cond, ◌&&◌, Bool, true, false, Option, Some, None, List, [], ◌∷◌, ◌++◌, option_map, refl, sym, ap, subst, ◌∙◌}
 use Rattle.std.specs.Prelude.{⊤}
+use Rattle.std.proofs.lemmas.Bool.{false≢true}
 use Rattle.kt_tree.specs.declared.token.Span.{Span}
 use Rattle.kt_tree.specs.declared.ast.part.Arithmetic.TheVariants as arithmetic
 use Rattle.kt_model.specs.BodyTrees.{Operation, Int', Bool', Null', Template', Sign', Sum', Arithmetic', Compare', Equal', BuiltIn', Mark, Tree, Trees, Empty', First', Operation', Name', Paren', Not', And', Or', If', Declare', Local', Assign', Compound', Call', Return', Throw', Shut'}
@@ -13,7 +14,7 @@ use Rattle.kt_typing.specs.declared.claims.Way.TheVariants.{Unvalued, Plain, Inf
 use Rattle.kt_typing.specs.declared.claims.Claim.{Claim}
 use Rattle.kt_typing.specs.declared.claims.Claim.TheVariants.{Gives, Breaks, Lacks}
 use Rattle.kt_typing.specs.declared.claims.Operator.{Operator}
-use Rattle.kt_typing.specs.Typing.{Ways, Each, first_way, rest_ways, Signature, built_in_signature, TypeContext, LocalTypes, look_up, declared, initialised, Judgement, Judgements, alone, no_trees, in_front, is_subtype, stands_if, settled, claimed, outcome, type_in, finding_in, have_types, closed, not_open, count, demand_if, unit, operator_of, sum_operator, operator_demand, call_if, call_demand, operation_demand, is_text, first_of, name_claim, value_way, known_type, declaration_claim, type_or_none, assign_claim, old_value, kept, compound_claim, left_way, right_way, inside, judged, all_judged}
+use Rattle.kt_typing.specs.Typing.{Ways, Each, first_way, rest_ways, Signature, built_in_signature, TypeContext, LocalTypes, look_up, declared, initialised, Judgement, Judgements, alone, no_trees, in_front, is_subtype, stands_if, settled, claimed, outcome, type_in, finding_in, have_types, closed, not_open, count, demand_if, unit, operator_of, sum_operator, operator_demand, call_if, call_demand, operation_demand, equality_demand, is_text, first_of, apart, name_claim, value_way, known_type, declaration_claim, type_or_none, assign_claim, old_value, kept, compound_claim, left_way, right_way, inside, boolean, is_unit, unit_if, bare_return, return_claim, last_of, branched, judged, all_judged}
 use Rattle.kt_sound.proofs.TypingSteps.{none_in, Known, known_declared, known_initialised}
 
 pub some_finding : {A : Type 0} (x : A) → x ∷ [] ≡ [] → ⊥
@@ -101,20 +102,24 @@ sum_decided : (text : Bool) (n : Mark) (k : ℕ) → IsDecided (operator_demand 
 sum_decided true n k = if_decided (k == 2) n _ _
 sum_decided false n k = if_decided (k == 2) n _ _
 
-pub operation_decided : (n : Mark) (o : Operation) (text : Bool) (k : ℕ) → IsDecided (operation_demand n o text k).claim
-operation_decided n (Int' i) text k = if_decided (k == 0) n _ _
-operation_decided n (Bool' b) text k = tt
-operation_decided n Null' text k = tt
-operation_decided n (Template' texts) text k = tt
-operation_decided n (Sign' sign) text k = if_decided (k == 1) n _ _
-operation_decided n Sum' text k = sum_decided text n k
-operation_decided n (Arithmetic' arithmetic.Subtract) text k = sum_decided false n k
-operation_decided n (Arithmetic' arithmetic.Multiply) text k = sum_decided false n k
-operation_decided n (Arithmetic' arithmetic.Divide) text k = tt
-operation_decided n (Arithmetic' arithmetic.Remainder) text k = tt
-operation_decided n (Compare' c) text k = tt
-operation_decided n (Equal' c) text k = tt
-operation_decided n (BuiltIn' name returns) text k = call_decided (option_map built_in_signature (built_in_named name)) n k
+equality_decided : (apart : Bool) (n : Mark) (k : ℕ) → IsDecided (equality_demand apart (demand_if (k == 2) n (Each Plain) boolean) n).claim
+equality_decided true n k = tt
+equality_decided false n k = if_decided (k == 2) n _ _
+
+pub operation_decided : (n : Mark) (o : Operation) (text apart : Bool) (k : ℕ) → IsDecided (operation_demand n o text apart k).claim
+operation_decided n (Int' i) text apart k = if_decided (k == 0) n _ _
+operation_decided n (Bool' b) text apart k = if_decided (k == 0) n _ _
+operation_decided n Null' text apart k = tt
+operation_decided n (Template' texts) text apart k = tt
+operation_decided n (Sign' sign) text apart k = if_decided (k == 1) n _ _
+operation_decided n Sum' text apart k = sum_decided text n k
+operation_decided n (Arithmetic' arithmetic.Subtract) text apart k = sum_decided false n k
+operation_decided n (Arithmetic' arithmetic.Multiply) text apart k = sum_decided false n k
+operation_decided n (Arithmetic' arithmetic.Divide) text apart k = tt
+operation_decided n (Arithmetic' arithmetic.Remainder) text apart k = tt
+operation_decided n (Compare' c) text apart k = if_decided (k == 2) n _ _
+operation_decided n (Equal' c) text apart k = equality_decided apart n k
+operation_decided n (BuiltIn' name returns) text apart k = call_decided (option_map built_in_signature (built_in_named name)) n k
 
 pub name_decided : (word : Span) (o : Option (Option KtType)) → (o ≡ Some None → ⊥) → IsDecided (name_claim word o)
 name_decided word None h = tt
@@ -152,6 +157,19 @@ compound_decided cx n o text t k = by (operator_of o text)
     by None = tt
     by (Some p) = at_most (nat_le k 1) _ (settled_decided cx.classes (Checked t) p.gives n.span)
 
+bare_decided : (result : Option KtType) (n : Mark) → IsDecided (bare_return result n)
+bare_decided None n = tt
+bare_decided (Some t) n = by (is_unit t)
+  where
+    by : (b : Bool) → IsDecided (unit_if b n)
+    by true = tt
+    by false = tt
+
+pub return_decided : (result : Option KtType) (n : Mark) (k : ℕ) → IsDecided (return_claim result n k)
+return_decided result n zero = bare_decided result n
+return_decided result n (suc zero) = tt
+return_decided result n (suc (suc k)) = tt
+
 -- ---- along trees
 
 -- a type, and that behind it each local has one
@@ -170,6 +188,29 @@ not_open_none cx way n locals e = some_finding _ e
 pub types_first : (found : Option KtType) (rest : List (Option KtType)) → HasType found → have_types rest ≡ true → have_types (found ∷ rest) ≡ true
 types_first found rest h r = subst (λ o. have_types (o ∷ rest) ≡ true) (sym h.1) r
 
+types_rest : (o : Option KtType) (rest : List (Option KtType)) → have_types (o ∷ rest) ≡ true → have_types rest ≡ true
+types_rest (Some t) rest h = h
+types_rest None rest h = absurd (false≢true h)
+
+-- the last of trees that have types has one
+types_last : (ts : List (Option KtType)) → have_types ts ≡ true → have_types (last_of ts) ≡ true
+types_last [] h = refl
+types_last (t ∷ []) h = h
+types_last (t ∷ u ∷ ts) h = types_last (u ∷ ts) (types_rest t (u ∷ ts) h)
+
+types_both : (ts us : List (Option KtType)) → have_types ts ≡ true → have_types us ≡ true → have_types (ts ++ us) ≡ true
+types_both [] us h i = i
+types_both (Some t ∷ ts) us h i = types_both ts us h i
+types_both (None ∷ ts) us h i = absurd (false≢true h)
+
+-- the parts of an `if`
+pub types_branched : (c : Judgement) (a b : Judgements) → HasType c.found → have_types a.each_found ≡ true → have_types b.each_found ≡ true → have_types (branched c a b).each_found ≡ true
+types_branched c a b h i j = types_first c.found (last_of a.each_found ++ last_of b.each_found) h (types_both (last_of a.each_found) (last_of b.each_found) (types_last a.each_found i) (types_last b.each_found j))
+
+-- two operands, the first of which is typed before the second
+pub types_two : (a b : Judgement) → HasType a.found → HasType b.found → have_types (in_front a (alone b)).each_found ≡ true
+types_two a b h i = types_first a.found (b.found ∷ []) h (types_first b.found [] i refl)
+
 pub old_typed : (cx : TypeContext) (way : Way) (word : Span) (o : Option (Option KtType)) (locals : LocalTypes) → (o ≡ Some None → ⊥) → (old_value cx way word o locals).findings ≡ [] → HasType (old_value cx way word o locals).found
 old_typed cx way word o locals h e = let s = stood cx.classes way word (name_claim word o) (name_decided word o h) e in (s.type, s.found)
 
@@ -185,16 +226,42 @@ mutual
   pub typed_tree : (cx : TypeContext) (way : Way) (locals : LocalTypes) (t : Tree) → Known locals → (judged cx way locals t).findings ≡ [] → Typed (judged cx way locals t)
   typed_tree cx way locals (Operation' n o parts) h e =
       let text = is_text (first_of (all_judged cx (Each Inferred) locals parts).each_found) in
-      let demand = operation_demand n o text (count parts) in
+      let demand = operation_demand n o text (apart (all_judged cx (Each Plain) locals parts).each_found) (count parts) in
       let inner = all_judged cx demand.ways locals parts in
       let all = typed_trees cx demand.ways locals parts h (parts_none cx way n inner demand.claim e) in
-      record { type = has_type cx way n inner demand.claim all.types (operation_decided n o text (count parts)) e; known = all.known }
+      record { type = has_type cx way n inner demand.claim all.types (operation_decided n o text (apart (all_judged cx (Each Plain) locals parts).each_found) (count parts)) e; known = all.known }
   typed_tree cx way locals (Name' n at x) h e =
       record { type = has_type cx way n (no_trees locals) (name_claim n.word (look_up locals x)) refl (name_decided n.word (look_up locals x) (h x)) e; known = h }
   typed_tree cx way locals (Paren' n t) h e = let inner = typed_tree cx (inside way) locals t h e in record { type = inner.type; known = inner.known }
-  typed_tree cx way locals (Not' n t) h e = absurd (not_open_none cx way n locals e)
-  typed_tree cx way locals (And' n a b) h e = absurd (not_open_none cx way n locals e)
-  typed_tree cx way locals (Or' n a b) h e = absurd (not_open_none cx way n locals e)
+  typed_tree cx way locals (Not' n t) h e =
+      let inner = judged cx (Checked boolean) locals t in
+      let one = typed_tree cx (Checked boolean) locals t h (parts_none cx way n (alone inner) (Gives boolean) e) in
+      record { type = has_type cx way n (alone inner) (Gives boolean) (types_first inner.found [] one.type refl) tt e; known = one.known }
+  typed_tree cx way locals (And' n a b) h e =
+      let left = judged cx (Checked boolean) locals a in
+      let right = judged cx (Checked boolean) left.locals b in
+      let both = none_in left.findings right.findings (parts_none cx way n (in_front left (alone right)) (Gives boolean) e) in
+      let first = typed_tree cx (Checked boolean) locals a h both.0 in
+      let second = typed_tree cx (Checked boolean) left.locals b first.known both.1 in
+      record { type = has_type cx way n (in_front left (alone right)) (Gives boolean) (types_two left right first.type second.type) tt e; known = second.known }
+  typed_tree cx way locals (Or' n a b) h e =
+      let left = judged cx (Checked boolean) locals a in
+      let right = judged cx (Checked boolean) left.locals b in
+      let both = none_in left.findings right.findings (parts_none cx way n (in_front left (alone right)) (Gives boolean) e) in
+      let first = typed_tree cx (Checked boolean) locals a h both.0 in
+      let second = typed_tree cx (Checked boolean) left.locals b first.known both.1 in
+      record { type = has_type cx way n (in_front left (alone right)) (Gives boolean) (types_two left right first.type second.type) tt e; known = second.known }
+  typed_tree cx Unvalued locals (If' n c a b) h e =
+      let condition = judged cx (Checked boolean) locals c in
+      let first = all_judged cx (Each Unvalued) condition.locals a in
+      let second = all_judged cx (Each Unvalued) first.locals b in
+      let parts = branched condition first second in
+      let none = none_in condition.findings (first.findings ++ second.findings) (parts_none cx Unvalued n parts (Gives unit) e) in
+      let both = none_in first.findings second.findings none.1 in
+      let asked = typed_tree cx (Checked boolean) locals c h none.0 in
+      let one = typed_trees cx (Each Unvalued) condition.locals a asked.known both.0 in
+      let other = typed_trees cx (Each Unvalued) first.locals b one.known both.1 in
+      record { type = has_type cx Unvalued n parts (Gives unit) (types_branched condition first second asked.type one.types other.types) tt e; known = other.known }
   typed_tree cx way locals (If' n c a b) h e = absurd (not_open_none cx way n locals e)
   typed_tree cx way locals (Declare' n x) h e =
       record { type = has_type cx way n (no_trees (declared locals x (cx.written x))) (Gives unit) refl tt e; known = known_declared locals x (cx.written x) h }
@@ -232,7 +299,11 @@ mutual
       let inner = all_judged cx demand.ways locals arguments in
       let all = typed_trees cx demand.ways locals arguments h (parts_none cx way n inner demand.claim e) in
       record { type = has_type cx way n inner demand.claim all.types (call_decided (cx.signature f) n (count arguments)) e; known = all.known }
-  typed_tree cx way locals (Return' n value) h e = absurd (not_open_none cx way n locals e)
+  typed_tree cx way locals (Return' n value) h e =
+      let inner = all_judged cx (Each (value_way cx.result)) locals value in
+      let claim = return_claim cx.result n (count value) in
+      let all = typed_trees cx (Each (value_way cx.result)) locals value h (parts_none cx way n inner claim e) in
+      record { type = has_type cx way n inner claim all.types (return_decided cx.result n (count value)) e; known = all.known }
   typed_tree cx way locals (Throw' n t) h e = absurd (not_open_none cx way n locals e)
   typed_tree cx way locals (Shut' n) h e = absurd (not_open_none cx way n locals e)
 

@@ -4,6 +4,8 @@ use Rattle.std.proofs.lemmas.Bool.{cases_Bool, eqb-true, leb-true, false≢true}
 use Rattle.kt_tree.specs.declared.token.Span.{Span}
 use Rattle.kt_tree.specs.declared.ast.part.Sign.{Sign}
 use Rattle.kt_tree.specs.declared.ast.part.Arithmetic.TheVariants as arithmetic
+use Rattle.kt_tree.specs.declared.ast.part.Comparison.{Comparison}
+use Rattle.kt_tree.specs.declared.ast.part.Equality.{Equality}
 use Rattle.kt_model.specs.BodyTrees.{Operation, Int', Bool', Null', Template', Sign', Sum', Arithmetic', Compare', Equal', BuiltIn', Mark, Trees, Empty', First'}
 use Rattle.kt_model.specs.Classes.{Classes}
 use Rattle.kt_model.specs.BuiltIns.{built_in_named}
@@ -12,11 +14,11 @@ use Rattle.kt_model.specs.declared.finding.Rule.{Rule}
 use Rattle.kt_typing.specs.declared.claims.Way.{Way}
 use Rattle.kt_typing.specs.declared.claims.Way.TheVariants.{Unvalued, Plain, Inferred, Checked}
 use Rattle.kt_typing.specs.declared.claims.Claim.TheVariants as claim
-use Rattle.kt_typing.specs.Typing.{Ways, Each, Then, Signature, built_in_signature, TypeContext, LocalTypes, count, demand_if, call_if, call_demand, operation_demand, is_text, first_of, int, unit, all_judged}
+use Rattle.kt_typing.specs.Typing.{Ways, Each, Then, Signature, built_in_signature, TypeContext, LocalTypes, count, demand_if, call_if, call_demand, operation_demand, is_text, first_of, int, boolean, unit, all_judged}
 use Rattle.kt_mean.specs.declared.states.Value.{Value}
 use Rattle.kt_mean.specs.declared.states.Value.TheVariants as value
 use Rattle.kt_mean.specs.Frames.{State, Gave, Run, pure}
-use Rattle.kt_mean.specs.Evaluation.{print, on_one, on_two, arithmetic_of, built_in, operated}
+use Rattle.kt_mean.specs.Evaluation.{print, on_one, on_two, arithmetic_of, compared, equal_of, built_in, operated}
 use Rattle.kt_sound.specs.BodySoundness.{HasBuiltInClasses}
 use Rattle.kt_sound.proofs.NoFinding.{Under}
 use Rattle.kt_sound.proofs.ValueTypes.{Lies, lies_above, int_of, no_texts}
@@ -67,17 +69,30 @@ one_int f found [] h g = absurd g
 one_int f found (x ∷ []) h g = let a = int_of x g.0.1 in subst (λ z. Yields (on_one f (z ∷ [])) int) (sym a.1) (h a.0)
 one_int f found (x ∷ y ∷ vs) h g = absurd g.1
 
-pub two_ints : (f : ℤ → ℤ → Run Value) (x y : Value) → ((a b : ℤ) → Yields (f a b) int) → Lies x int → Lies y int → Yields (on_two f (x ∷ y ∷ [])) int
-two_ints f x y h l m =
+two_ints : (f : ℤ → ℤ → Run Value) (t : KtType) (x y : Value) → ((a b : ℤ) → Yields (f a b) t) → Lies x int → Lies y int → Yields (on_two f (x ∷ y ∷ [])) t
+two_ints f t x y h l m =
     let a = int_of x l in
     let b = int_of y m in
-    subst (λ z. Yields (on_two f (z ∷ y ∷ [])) int) (sym a.1) (subst (λ z. Yields (on_two f (value.Int a.0 ∷ z ∷ [])) int) (sym b.1) (h a.0 b.0))
+    subst (λ z. Yields (on_two f (z ∷ y ∷ [])) t) (sym a.1) (subst (λ z. Yields (on_two f (value.Int a.0 ∷ z ∷ [])) t) (sym b.1) (h a.0 b.0))
 
 both_ints : (f : ℤ → ℤ → Run Value) (fa fb : Option KtType) (vs : List Value) → ((a b : ℤ) → Yields (f a b) int) → AllGive (Then (Checked int) (Each (Checked int))) (fa ∷ fb ∷ []) vs → Yields (on_two f vs) int
 both_ints f fa fb [] h g = absurd g
 both_ints f fa fb (x ∷ []) h g = absurd g.1
-both_ints f fa fb (x ∷ y ∷ []) h g = two_ints f x y h g.0.1 g.1.0.1
+both_ints f fa fb (x ∷ y ∷ []) h g = two_ints f int x y h g.0.1 g.1.0.1
 both_ints f fa fb (x ∷ y ∷ z ∷ vs) h g = absurd g.1.1
+
+compared_ints : (c : Comparison) (fa fb : Option KtType) (vs : List Value) → AllGive (Each (Checked int)) (fa ∷ fb ∷ []) vs → Yields (operated (Compare' c) vs) boolean
+compared_ints c fa fb [] g = absurd g
+compared_ints c fa fb (x ∷ []) g = absurd g.1
+compared_ints c fa fb (x ∷ y ∷ []) g = two_ints _ boolean x y (λ a b. pure_yields (value.Bool (compared c a b)) boolean refl) g.0.1 g.1.0.1
+compared_ints c fa fb (x ∷ y ∷ z ∷ vs) g = absurd g.1.1
+
+-- any two values are the same or not
+equal_values : (o : Equality) (fa fb : Option KtType) (vs : List Value) → AllGive (Each Plain) (fa ∷ fb ∷ []) vs → Yields (equal_of o vs) boolean
+equal_values o fa fb [] g = absurd g
+equal_values o fa fb (x ∷ []) g = absurd g.1
+equal_values o fa fb (x ∷ y ∷ []) g = pure_yields _ boolean refl
+equal_values o fa fb (x ∷ y ∷ z ∷ vs) g = absurd g.1.1
 
 -- numbers by the operators that are open
 pub sum_yields : (a b : ℤ) → Yields (operated Sum' (value.Int a ∷ value.Int b ∷ [])) int
@@ -149,15 +164,15 @@ built_in_yields cx n name = elim (cases_Bool (20 == name)) [
 -- ---- all operations
 
 -- parts that are checked against `Int` where there are two
-two_parts : (cx : TypeContext) (n : Mark) (o : Operation) (f : ℤ → ℤ → Run Value) (locals : LocalTypes) (ts : Trees) (d : KtType) (vs : List Value) → ((a b : ℤ) → Yields (f a b) int)
+two_parts : (cx : TypeContext) (n : Mark) (f : ℤ → ℤ → Run Value) (locals : LocalTypes) (ts : Trees) (d : KtType) (vs : List Value) → ((a b : ℤ) → Yields (f a b) int)
     → (demand_if (count ts == 2) n (Then (Checked int) (Each (Checked int))) int).claim ≡ claim.Gives d
     → AllGive (demand_if (count ts == 2) n (Then (Checked int) (Each (Checked int))) int).ways (all_judged cx (demand_if (count ts == 2) n (Then (Checked int) (Each (Checked int))) int).ways locals ts).each_found vs
     → Yields (on_two f vs) d
 unfolding all_judged
-two_parts cx n o f locals Empty' d vs h e g = absurd (breaks-gives _ _ d e)
-two_parts cx n o f locals (First' a Empty') d vs h e g = absurd (breaks-gives _ _ d e)
-two_parts cx n o f locals (First' a (First' b Empty')) d vs h e g = subst (λ t. Yields (on_two f vs) t) (gives-gives int d e) (both_ints f _ _ vs h g)
-two_parts cx n o f locals (First' a (First' b (First' c rest))) d vs h e g = absurd (too_many (suc (suc (suc (count rest)))) 2 n _ int d (λ i. omega arith) e)
+two_parts cx n f locals Empty' d vs h e g = absurd (breaks-gives _ _ d e)
+two_parts cx n f locals (First' a Empty') d vs h e g = absurd (breaks-gives _ _ d e)
+two_parts cx n f locals (First' a (First' b Empty')) d vs h e g = subst (λ t. Yields (on_two f vs) t) (gives-gives int d e) (both_ints f _ _ vs h g)
+two_parts cx n f locals (First' a (First' b (First' c rest))) d vs h e g = absurd (too_many (suc (suc (suc (count rest)))) 2 n _ int d (λ i. omega arith) e)
 
 text_parts : (cx : TypeContext) (n : Mark) (t : KtType) (locals : LocalTypes) (ts : Trees) (d : KtType) (vs : List Value) → is_text (first_of (all_judged cx (Each Inferred) locals ts).each_found) ≡ true
     → (demand_if (count ts == 2) n (Then Inferred (Each Plain)) t).claim ≡ claim.Gives d
@@ -168,12 +183,29 @@ text_parts cx n t locals (First' a Empty') d vs i e g = breaks-gives _ _ d e
 text_parts cx n t locals (First' a (First' b Empty')) d vs i e g = text_left _ _ vs i g
 text_parts cx n t locals (First' a (First' b (First' c rest))) d vs i e g = too_many (suc (suc (suc (count rest)))) 2 n _ t d (λ j. omega arith) e
 
-int_yields : (cx : TypeContext) (n : Mark) (k : ℕ) (locals : LocalTypes) (ts : Trees) (d : KtType) (vs : List Value) → (demand_if (count ts == 0) n (Each Inferred) int).claim ≡ claim.Gives d
-    → AllGive (demand_if (count ts == 0) n (Each Inferred) int).ways (all_judged cx (demand_if (count ts == 0) n (Each Inferred) int).ways locals ts).each_found vs → Yields (operated (Int' k) vs) d
+literal_yields : (cx : TypeContext) (n : Mark) (o : Operation) (t : KtType) (locals : LocalTypes) (ts : Trees) (d : KtType) (vs : List Value) → Yields (operated o []) t
+    → (demand_if (count ts == 0) n (Each Inferred) t).claim ≡ claim.Gives d
+    → AllGive (demand_if (count ts == 0) n (Each Inferred) t).ways (all_judged cx (demand_if (count ts == 0) n (Each Inferred) t).ways locals ts).each_found vs → Yields (operated o vs) d
 unfolding all_judged
-int_yields cx n k locals Empty' d [] e g = subst (λ t. Yields (pure (value.Int (pos k))) t) (gives-gives int d e) (pure_yields _ int refl)
-int_yields cx n k locals Empty' d (v ∷ vs) e g = absurd g
-int_yields cx n k locals (First' a rest) d vs e g = absurd (too_many (suc (count rest)) 0 n _ int d (λ i. omega arith) e)
+literal_yields cx n o t locals Empty' d [] y e g = subst (λ u. Yields (operated o []) u) (gives-gives t d e) y
+literal_yields cx n o t locals Empty' d (v ∷ vs) y e g = absurd g
+literal_yields cx n o t locals (First' a rest) d vs y e g = absurd (too_many (suc (count rest)) 0 n _ t d (λ i. omega arith) e)
+
+compare_yields : (cx : TypeContext) (n : Mark) (c : Comparison) (locals : LocalTypes) (ts : Trees) (d : KtType) (vs : List Value) → (demand_if (count ts == 2) n (Each (Checked int)) boolean).claim ≡ claim.Gives d
+    → AllGive (demand_if (count ts == 2) n (Each (Checked int)) boolean).ways (all_judged cx (demand_if (count ts == 2) n (Each (Checked int)) boolean).ways locals ts).each_found vs → Yields (operated (Compare' c) vs) d
+unfolding all_judged
+compare_yields cx n c locals Empty' d vs e g = absurd (breaks-gives _ _ d e)
+compare_yields cx n c locals (First' a Empty') d vs e g = absurd (breaks-gives _ _ d e)
+compare_yields cx n c locals (First' a (First' b Empty')) d vs e g = subst (λ t. Yields (operated (Compare' c) vs) t) (gives-gives boolean d e) (compared_ints c _ _ vs g)
+compare_yields cx n c locals (First' a (First' b (First' f rest))) d vs e g = absurd (too_many (suc (suc (suc (count rest)))) 2 n _ boolean d (λ i. omega arith) e)
+
+equal_yields : (cx : TypeContext) (n : Mark) (o : Equality) (locals : LocalTypes) (ts : Trees) (d : KtType) (vs : List Value) → (demand_if (count ts == 2) n (Each Plain) boolean).claim ≡ claim.Gives d
+    → AllGive (demand_if (count ts == 2) n (Each Plain) boolean).ways (all_judged cx (demand_if (count ts == 2) n (Each Plain) boolean).ways locals ts).each_found vs → Yields (equal_of o vs) d
+unfolding all_judged
+equal_yields cx n o locals Empty' d vs e g = absurd (breaks-gives _ _ d e)
+equal_yields cx n o locals (First' a Empty') d vs e g = absurd (breaks-gives _ _ d e)
+equal_yields cx n o locals (First' a (First' b Empty')) d vs e g = subst (λ t. Yields (equal_of o vs) t) (gives-gives boolean d e) (equal_values o _ _ vs g)
+equal_yields cx n o locals (First' a (First' b (First' f rest))) d vs e g = absurd (too_many (suc (suc (suc (count rest)))) 2 n _ boolean d (λ i. omega arith) e)
 
 sign_yields : (cx : TypeContext) (n : Mark) (s : Sign) (locals : LocalTypes) (ts : Trees) (d : KtType) (vs : List Value) → (demand_if (count ts == 1) n (Each (Checked int)) int).claim ≡ claim.Gives d
     → AllGive (demand_if (count ts == 1) n (Each (Checked int)) int).ways (all_judged cx (demand_if (count ts == 1) n (Each (Checked int)) int).ways locals ts).each_found vs → Yields (operated (Sign' s) vs) d
@@ -183,20 +215,21 @@ sign_yields cx n s locals (First' a Empty') d vs e g = subst (λ t. Yields (oper
 sign_yields cx n s locals (First' a (First' b rest)) d vs e g = absurd (too_many (suc (suc (count rest))) 1 n _ int d (λ i. omega arith) e)
 
 -- An operation on values of the types that it asks for gives a value of its type.
-pub operation_yields : (cx : TypeContext) (n : Mark) (o : Operation) (text : Bool) (locals : LocalTypes) (ts : Trees) (d : KtType) (vs : List Value)
-    → (text ≡ true → is_text (first_of (all_judged cx (Each Inferred) locals ts).each_found) ≡ true) → (operation_demand n o text (count ts)).claim ≡ claim.Gives d
-    → AllGive (operation_demand n o text (count ts)).ways (all_judged cx (operation_demand n o text (count ts)).ways locals ts).each_found vs → Yields (operated o vs) d
-operation_yields cx n (Int' k) text locals ts d vs i e g = int_yields cx n k locals ts d vs e g
-operation_yields cx n (Bool' b) text locals ts d vs i e g = absurd (breaks-gives _ _ d e)
-operation_yields cx n Null' text locals ts d vs i e g = absurd (breaks-gives _ _ d e)
-operation_yields cx n (Template' texts) text locals ts d vs i e g = absurd (breaks-gives _ _ d e)
-operation_yields cx n (Sign' s) text locals ts d vs i e g = sign_yields cx n s locals ts d vs e g
-operation_yields cx n Sum' true locals ts d vs i e g = absurd (text_parts cx n _ locals ts d vs (i refl) e g)
-operation_yields cx n Sum' false locals ts d vs i e g = two_parts cx n Sum' _ locals ts d vs sum_yields e g
-operation_yields cx n (Arithmetic' arithmetic.Subtract) text locals ts d vs i e g = two_parts cx n Sum' _ locals ts d vs subtract_yields e g
-operation_yields cx n (Arithmetic' arithmetic.Multiply) text locals ts d vs i e g = two_parts cx n Sum' _ locals ts d vs multiply_yields e g
-operation_yields cx n (Arithmetic' arithmetic.Divide) text locals ts d vs i e g = absurd (breaks-gives _ _ d e)
-operation_yields cx n (Arithmetic' arithmetic.Remainder) text locals ts d vs i e g = absurd (breaks-gives _ _ d e)
-operation_yields cx n (Compare' c) text locals ts d vs i e g = absurd (breaks-gives _ _ d e)
-operation_yields cx n (Equal' c) text locals ts d vs i e g = absurd (breaks-gives _ _ d e)
-operation_yields cx n (BuiltIn' name returns) text locals ts d vs i e g = built_in_yields cx n name locals ts d vs e g
+pub operation_yields : (cx : TypeContext) (n : Mark) (o : Operation) (text apart : Bool) (locals : LocalTypes) (ts : Trees) (d : KtType) (vs : List Value)
+    → (text ≡ true → is_text (first_of (all_judged cx (Each Inferred) locals ts).each_found) ≡ true) → (operation_demand n o text apart (count ts)).claim ≡ claim.Gives d
+    → AllGive (operation_demand n o text apart (count ts)).ways (all_judged cx (operation_demand n o text apart (count ts)).ways locals ts).each_found vs → Yields (operated o vs) d
+operation_yields cx n (Int' k) text apart locals ts d vs i e g = literal_yields cx n (Int' k) int locals ts d vs (pure_yields (value.Int (pos k)) int refl) e g
+operation_yields cx n (Bool' b) text apart locals ts d vs i e g = literal_yields cx n (Bool' b) boolean locals ts d vs (pure_yields (value.Bool b) boolean refl) e g
+operation_yields cx n Null' text apart locals ts d vs i e g = absurd (breaks-gives _ _ d e)
+operation_yields cx n (Template' texts) text apart locals ts d vs i e g = absurd (breaks-gives _ _ d e)
+operation_yields cx n (Sign' s) text apart locals ts d vs i e g = sign_yields cx n s locals ts d vs e g
+operation_yields cx n Sum' true apart locals ts d vs i e g = absurd (text_parts cx n _ locals ts d vs (i refl) e g)
+operation_yields cx n Sum' false apart locals ts d vs i e g = two_parts cx n _ locals ts d vs sum_yields e g
+operation_yields cx n (Arithmetic' arithmetic.Subtract) text apart locals ts d vs i e g = two_parts cx n _ locals ts d vs subtract_yields e g
+operation_yields cx n (Arithmetic' arithmetic.Multiply) text apart locals ts d vs i e g = two_parts cx n _ locals ts d vs multiply_yields e g
+operation_yields cx n (Arithmetic' arithmetic.Divide) text apart locals ts d vs i e g = absurd (breaks-gives _ _ d e)
+operation_yields cx n (Arithmetic' arithmetic.Remainder) text apart locals ts d vs i e g = absurd (breaks-gives _ _ d e)
+operation_yields cx n (Compare' c) text apart locals ts d vs i e g = compare_yields cx n c locals ts d vs e g
+operation_yields cx n (Equal' o) text true locals ts d vs i e g = absurd (breaks-gives _ _ d e)
+operation_yields cx n (Equal' o) text false locals ts d vs i e g = equal_yields cx n o locals ts d vs e g
+operation_yields cx n (BuiltIn' name returns) text apart locals ts d vs i e g = built_in_yields cx n name locals ts d vs e g

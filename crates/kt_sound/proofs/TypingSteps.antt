@@ -4,8 +4,8 @@ use Rattle.std.proofs.lemmas.Bool.{eqb-true, eq-eqb}
 use Rattle.kt_model.specs.BodyTrees.{Operation, Mark, Tree, Trees, Empty', First', Operation', Name', Paren', Not', And', Or', If', Declare', Local', Assign', Compound', Call', Return', Throw', Shut'}
 use Rattle.kt_model.specs.declared.kinds.KtType.{KtType}
 use Rattle.kt_typing.specs.declared.claims.Way.{Way}
-use Rattle.kt_typing.specs.declared.claims.Way.TheVariants.{Inferred}
-use Rattle.kt_typing.specs.Typing.{Ways, Each, first_way, rest_ways, TypeContext, LocalTypes, look_up, bound_unless, bound, declared, initialised, count, operator_of, call_demand, operation_demand, is_text, first_of, value_way, known_type, type_or_none, right_way, inside, judged, all_judged}
+use Rattle.kt_typing.specs.declared.claims.Way.TheVariants.{Unvalued, Plain, Inferred, Checked}
+use Rattle.kt_typing.specs.Typing.{Ways, Each, first_way, rest_ways, TypeContext, LocalTypes, look_up, bound_unless, bound, declared, initialised, count, operator_of, call_demand, operation_demand, is_text, first_of, apart, value_way, known_type, type_or_none, right_way, inside, boolean, judged, all_judged, parameter_types}
 
 -- ---- lists and options
 
@@ -127,6 +127,20 @@ written_initialised written ls y found h = by (written y) refl
     by None e = written_bound written ls y found (λ t w f g. absurd (none-some w (sym e ∙ g))) h
     by (Some u) e = written_bound written ls y (Some u) (λ t w. written_same (written y) u t w e) h
 
+-- ---- parameters
+
+-- each parameter has a type before the body
+pub known_parameters : (cx : TypeContext) (locals : LocalTypes) (xs : List ℕ) → Known locals → Known (parameter_types cx locals xs)
+known_parameters cx locals [] h = h
+known_parameters cx locals (x ∷ xs) h = known_parameters cx (declared locals x (cx.written x)) xs (known_declared locals x (cx.written x) h)
+
+-- it is the written one
+pub written_parameters : (cx : TypeContext) (locals : LocalTypes) (xs : List ℕ) → AsWritten cx.written locals → AsWritten cx.written (parameter_types cx locals xs)
+written_parameters cx locals [] h = h
+written_parameters cx locals (x ∷ xs) h = written_parameters cx (declared locals x (cx.written x)) xs (written_declared cx.written locals x h)
+
+-- ---- initialisers
+
 -- the type that a declaration with an initialiser gives
 abbrev pub own_type : Option KtType → Option KtType → Option KtType
 own_type (Some t) found = Some t
@@ -143,7 +157,8 @@ new_initialised ls y None found e = new_bound ls y found e
 
 -- the ways of the parts of an operation
 abbrev pub operation_ways : TypeContext → LocalTypes → Mark → Operation → Trees → Ways
-operation_ways cx locals n o parts = (operation_demand n o (is_text (first_of (all_judged cx (Each Inferred) locals parts).each_found)) (count parts)).ways
+operation_ways cx locals n o parts =
+    (operation_demand n o (is_text (first_of (all_judged cx (Each Inferred) locals parts).each_found)) (apart (all_judged cx (Each Plain) locals parts).each_found) (count parts)).ways
 
 abbrev pub call_ways : TypeContext → Mark → ℕ → Trees → Ways
 call_ways cx n f arguments = (call_demand (cx.signature f) n (count arguments)).ways
@@ -158,9 +173,15 @@ mutual
   kept_tree cx way locals (Operation' n o parts) x u h = kept_trees cx (operation_ways cx locals n o parts) locals parts x u h
   kept_tree cx way locals (Name' n at y) x u h = h
   kept_tree cx way locals (Paren' n e) x u h = kept_tree cx (inside way) locals e x u h
-  kept_tree cx way locals (Not' n e) x u h = h
-  kept_tree cx way locals (And' n a b) x u h = h
-  kept_tree cx way locals (Or' n a b) x u h = h
+  kept_tree cx way locals (Not' n e) x u h = kept_tree cx (Checked boolean) locals e x u h
+  kept_tree cx way locals (And' n a b) x u h =
+      kept_tree cx (Checked boolean) (judged cx (Checked boolean) locals a).locals b x u (kept_tree cx (Checked boolean) locals a x u h)
+  kept_tree cx way locals (Or' n a b) x u h =
+      kept_tree cx (Checked boolean) (judged cx (Checked boolean) locals a).locals b x u (kept_tree cx (Checked boolean) locals a x u h)
+  kept_tree cx Unvalued locals (If' n c a b) x u h =
+      let condition = judged cx (Checked boolean) locals c in
+      let first = all_judged cx (Each Unvalued) condition.locals a in
+      kept_trees cx (Each Unvalued) first.locals b x u (kept_trees cx (Each Unvalued) condition.locals a x u (kept_tree cx (Checked boolean) locals c x u h))
   kept_tree cx way locals (If' n c a b) x u h = h
   kept_tree cx way locals (Declare' n y) x u h = kept_declared locals y (cx.written y) x u h
   kept_tree cx way locals (Local' n at y e) x u h =
@@ -169,7 +190,7 @@ mutual
   kept_tree cx way locals (Assign' n at y fixed e) x u h = kept_tree cx (value_way (type_or_none (look_up locals y))) locals e x u h
   kept_tree cx way locals (Compound' n at y fixed o operand) x u h = kept_trees cx (operand_ways locals y o) locals operand x u h
   kept_tree cx way locals (Call' n f returns arguments) x u h = kept_trees cx (call_ways cx n f arguments) locals arguments x u h
-  kept_tree cx way locals (Return' n value) x u h = h
+  kept_tree cx way locals (Return' n value) x u h = kept_trees cx (Each (value_way cx.result)) locals value x u h
   kept_tree cx way locals (Throw' n e) x u h = h
   kept_tree cx way locals (Shut' n) x u h = h
 
@@ -185,9 +206,13 @@ mutual
   written_tree cx way locals (Operation' n o parts) h = written_trees cx (operation_ways cx locals n o parts) locals parts h
   written_tree cx way locals (Name' n at y) h = h
   written_tree cx way locals (Paren' n e) h = written_tree cx (inside way) locals e h
-  written_tree cx way locals (Not' n e) h = h
-  written_tree cx way locals (And' n a b) h = h
-  written_tree cx way locals (Or' n a b) h = h
+  written_tree cx way locals (Not' n e) h = written_tree cx (Checked boolean) locals e h
+  written_tree cx way locals (And' n a b) h = written_tree cx (Checked boolean) (judged cx (Checked boolean) locals a).locals b (written_tree cx (Checked boolean) locals a h)
+  written_tree cx way locals (Or' n a b) h = written_tree cx (Checked boolean) (judged cx (Checked boolean) locals a).locals b (written_tree cx (Checked boolean) locals a h)
+  written_tree cx Unvalued locals (If' n c a b) h =
+      let condition = judged cx (Checked boolean) locals c in
+      let first = all_judged cx (Each Unvalued) condition.locals a in
+      written_trees cx (Each Unvalued) first.locals b (written_trees cx (Each Unvalued) condition.locals a (written_tree cx (Checked boolean) locals c h))
   written_tree cx way locals (If' n c a b) h = h
   written_tree cx way locals (Declare' n y) h = written_declared cx.written locals y h
   written_tree cx way locals (Local' n at y e) h =
@@ -196,7 +221,7 @@ mutual
   written_tree cx way locals (Assign' n at y fixed e) h = written_tree cx (value_way (type_or_none (look_up locals y))) locals e h
   written_tree cx way locals (Compound' n at y fixed o operand) h = written_trees cx (operand_ways locals y o) locals operand h
   written_tree cx way locals (Call' n f returns arguments) h = written_trees cx (call_ways cx n f arguments) locals arguments h
-  written_tree cx way locals (Return' n value) h = h
+  written_tree cx way locals (Return' n value) h = written_trees cx (Each (value_way cx.result)) locals value h
   written_tree cx way locals (Throw' n e) h = h
   written_tree cx way locals (Shut' n) h = h
 

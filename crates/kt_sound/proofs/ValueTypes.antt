@@ -7,7 +7,7 @@ use Rattle.kt_model.specs.Subtypes.{class_of, is_under}
 use Rattle.kt_model.specs.declared.kinds.KtType.{KtType}
 use Rattle.kt_model.specs.declared.kinds.Head.{Head}
 use Rattle.kt_model.specs.declared.kinds.Head.TheVariants as head
-use Rattle.kt_typing.specs.Typing.{is_head_under, is_subtype, is_string, is_text, int}
+use Rattle.kt_typing.specs.Typing.{is_head_under, is_subtype, is_string, is_text, int, boolean, unit, is_unit}
 use Rattle.kt_model.proofs.ListLemmas.{Has, has_of_any, has_first, no_more}
 use Rattle.kt_mean.specs.declared.states.Value.{Value}
 use Rattle.kt_mean.specs.declared.states.Value.TheVariants as value
@@ -96,6 +96,23 @@ pub int_of : (v : Value) → Lies v int → (k : ℤ) × (v ≡ value.Int k)
 int_of value.Unit h = absurd (false≢true h)
 int_of (value.Bool b) h = absurd (false≢true h)
 int_of (value.Int k) h = (k, refl)
+
+-- a truth value
+pub bool_of : (v : Value) → Lies v boolean → (b : Bool) × (v ≡ value.Bool b)
+bool_of value.Unit h = absurd (false≢true h)
+bool_of (value.Bool b) h = (b, refl)
+bool_of (value.Int k) h = absurd (false≢true h)
+
+-- the test for `Unit`
+pub unit_is : (h : Head) (nullable : Bool) → is_unit (record { head = h; nullable = nullable }) ≡ true → record { head = h; nullable = nullable } ≡ unit
+unit_is head.Any b e = absurd (false≢true e)
+unit_is head.Nothing b e = absurd (false≢true e)
+unit_is head.Unit true e = absurd (false≢true e)
+unit_is head.Unit false e = refl
+unit_is head.Boolean b e = absurd (false≢true e)
+unit_is head.Int b e = absurd (false≢true e)
+unit_is head.Str b e = absurd (false≢true e)
+unit_is (head.Class c) b e = absurd (false≢true e)
 
 no_text : (v : Value) (h : Head) → is_string h ≡ true → is_of (class_of h) v ≡ true → ⊥
 no_text v head.Any e l = false≢true e

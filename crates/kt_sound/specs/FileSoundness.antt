@@ -1,4 +1,4 @@
--- The theorem of soundness for files in which no rule on bodies is violated, over the definitions alone.
+-- The theorem of soundness for files in which no rule on bodies is violated, over the definitions alone. It covers the forms that the theorem on bodies covers.
 use Rattle.std.specs.Prelude.{◌≡◌, ℕ, ◌<◌, List, length, Some}
 use Rattle.kt_tree.specs.declared.ast.declaration.File.{File}
 use Rattle.kt_model.specs.Classes.{Classes, written}

@@ -9,7 +9,7 @@ pub fn files_have_programs()
 
 /// For every such file, every input and every number of steps the run of its program does not end by a wrong use, in the words of `bodies_never_wrong`.
 /// What that law asks of a program beyond the rules follows from the file: each call in a body is of a function that the file has or of a built-in one,
-/// and returns; and `main` can be called.
+/// and returns; each parameter has a written type; and `main` can be called, and takes nothing.
 pub fn files_never_wrong()
     ensures { FilesNeverWrong }
 {}

@@ -5,7 +5,7 @@
 -- spans are this project's own. Each form has one definition: what it asks of its parts, and what it is where they have types. Forms that are not
 -- open yet are refused as no part of the language, which no file that is parsed can have; an `if` is open where its value is not taken. The code types
 -- each operand once, where the definition types those of a sum and of an equality anew for each question, and keeps the types of locals in a table.
-use Rattle.std.specs.Prelude.{ℕ, zero, suc, ◌==◌, ◌&&◌, ◌||◌, nat_eq, nat_le, Bool, true, false, not, List, [], ◌∷◌, ◌++◌, Option, Some, None, slice_get, option_map, Contains, if◌then◌else◌}
+use Rattle.std.specs.Prelude.{ℕ, zero, suc, length, ◌==◌, ◌&&◌, ◌||◌, nat_eq, nat_le, Bool, true, false, not, List, [], ◌∷◌, ◌++◌, Option, Some, None, slice_get, option_map, Contains, if◌then◌else◌}
 use Rattle.std.specs.Map.{lookup}
 use Rattle.kt_tree.specs.declared.token.Span.{Span}
 use Rattle.kt_tree.specs.declared.ast.part.Arithmetic.TheVariants.{Subtract, Multiply}
@@ -449,13 +449,23 @@ unfoldable mutual
 
 -- ---- a body
 
--- Until parameters and results are open: a function without parameters whose result is `Unit`.
-abbrev pub open_signature : List ℕ → Option KtType → Option Signature
-open_signature [] (Some t) = if is_unit t then Some (record { least = 0; most = 0; ways = Each Inferred; result = unit }) else None
-open_signature _ _ = None
+-- each argument is checked against the written type of its parameter
+abbrev pub parameter_ways : (ℕ → Option KtType) → List ℕ → Ways
+parameter_ways written [] = Each Inferred
+parameter_ways written (x ∷ xs) = Then (value_way (written x)) (parameter_ways written xs)
+
+abbrev pub function_signature : (ℕ → Option KtType) → List ℕ → KtType → Signature
+function_signature written parameters result =
+    record { least = length parameters; most = length parameters; ways = parameter_ways written parameters; result = result }
+
+-- Until results are open: a function whose result is `Unit`.
+abbrev pub open_signature : (ℕ → Option KtType) → List ℕ → Option KtType → Option Signature
+open_signature written parameters None = None
+open_signature written parameters (Some t) = if is_unit t then Some (function_signature written parameters unit) else None
 
 unfoldable pub signature_of : Resolved → ℕ → Option Signature
-signature_of resolved f = open_signature (parameters_at resolved f) (declaration_type resolved (function_place f))
+signature_of resolved f =
+    open_signature (declaration_type resolved) (parameters_at resolved f) (declaration_type resolved (function_place f))
 
 abbrev pub owner_result : Resolved → Owner → Option KtType
 owner_result resolved (owner.Function f) = declaration_type resolved (function_place f)

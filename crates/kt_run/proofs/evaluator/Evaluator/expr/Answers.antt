@@ -1,14 +1,15 @@
-use Rattle.std.proofs.Common.{map, refl, sym, ap, subst, ◌∙◌}
+use Rattle.std.proofs.Common.{Ok, map, refl, sym, ap, subst, ◌∙◌}
 use Rattle.kt_tree.specs.declared.ast.body.ExprKind.TheVariants as e
 use Rattle.kt_model.specs.BodyTrees.{Tree, seen as seen_in, seen_trees, piece, inserted_of, named_there, shut}
-use Rattle.kt_model.proofs.BodyFolds.{tree_of_kind, kind_int, kind_bool, kind_null, kind_name, kind_template, kind_paren, kind_call, kind_call_with, kind_sign, kind_not, kind_sum, kind_arithmetic, kind_compare, kind_equal, kind_and, kind_or, kind_if_any, kind_throw, kind_other}
+use Rattle.kt_model.proofs.BodyFolds.{tree_of_kind, kind_int, kind_bool, kind_null, kind_name, kind_template, kind_paren, kind_call, kind_call_with, kind_sign, kind_not, kind_sum, kind_arithmetic, kind_compare, kind_equal, kind_and, kind_or, kind_if_any, kind_return_any, kind_return_at_any, kind_throw, kind_other}
 use Rattle.kt_mean.specs.Frames.{wrong}
 use Rattle.kt_mean.specs.Evaluation.{with_values}
+use Rattle.kt_mean.specs.declared.states.Value.TheVariants as value
 use Rattle.kt_run.specs.Scene.{scene, Right, Runs}
 use Rattle.kt_run.specs.Running.{program_seen, part, names, shape, call_run}
-use Rattle.kt_run.proofs.Chain.{same_right, same_runs, quiet_runs}
+use Rattle.kt_run.proofs.Chain.{same_right, same_runs, quiet_runs, pure_runs}
 use Rattle.kt_run.proofs.Steps.{wrong_comes, int_runs}
-use Rattle.kt_run.proofs.FormSteps.{name_is, call_is, return_closed}
+use Rattle.kt_run.proofs.FormSteps.{name_is, call_is}
 use Rattle.kt_run.proofs.evaluator.Evaluator.expr.Goals as goal
 
 pub unreachable-requires : goal.unreachable-requires
@@ -20,62 +21,7 @@ unreachable-requires g c =
     let p = program_seen resolved in
     let go = part resolved depth in
     let uses = names resolved in
-    wrong_comes state (subst (λ (t : Tree). Right (shape resolved depth t) state) (tree_of_kind uses c.args.e.now _ _ c.in-Bool.is (kind_bool uses _)) c.requires.right)
-
-pub unreachable-requires-in-Null : goal.unreachable-requires-in-Null
-unreachable-requires-in-Null g c =
-    let resolved = c.args.self.now.resolved.now in
-    let depth = c.args.self.now.depth in
-    let state = c.args.state.now in
-    let out = g.O.Output.state c.args.out.now in
-    let p = program_seen resolved in
-    let go = part resolved depth in
-    let uses = names resolved in
     wrong_comes state (subst (λ (t : Tree). Right (shape resolved depth t) state) (tree_of_kind uses c.args.e.now _ _ c.in-Null.is (kind_null uses)) c.requires.right)
-
-pub unreachable-requires-in-Not : goal.unreachable-requires-in-Not
-unreachable-requires-in-Not g c =
-    let resolved = c.args.self.now.resolved.now in
-    let depth = c.args.self.now.depth in
-    let state = c.args.state.now in
-    let out = g.O.Output.state c.args.out.now in
-    let p = program_seen resolved in
-    let go = part resolved depth in
-    let uses = names resolved in
-    wrong_comes state (subst (λ (t : Tree). Right (shape resolved depth t) state) (tree_of_kind uses c.args.e.now _ _ c.in-Not.is (kind_not uses _)) c.requires.right)
-
-pub unreachable-requires-in-And : goal.unreachable-requires-in-And
-unreachable-requires-in-And g c =
-    let resolved = c.args.self.now.resolved.now in
-    let depth = c.args.self.now.depth in
-    let state = c.args.state.now in
-    let out = g.O.Output.state c.args.out.now in
-    let p = program_seen resolved in
-    let go = part resolved depth in
-    let uses = names resolved in
-    wrong_comes state (subst (λ (t : Tree). Right (shape resolved depth t) state) (tree_of_kind uses c.args.e.now _ _ c.in-And.is (kind_and uses _ _)) c.requires.right)
-
-pub unreachable-requires-in-Or : goal.unreachable-requires-in-Or
-unreachable-requires-in-Or g c =
-    let resolved = c.args.self.now.resolved.now in
-    let depth = c.args.self.now.depth in
-    let state = c.args.state.now in
-    let out = g.O.Output.state c.args.out.now in
-    let p = program_seen resolved in
-    let go = part resolved depth in
-    let uses = names resolved in
-    wrong_comes state (subst (λ (t : Tree). Right (shape resolved depth t) state) (tree_of_kind uses c.args.e.now _ _ c.in-Or.is (kind_or uses _ _)) c.requires.right)
-
-pub unreachable-requires-in-If : goal.unreachable-requires-in-If
-unreachable-requires-in-If g c =
-    let resolved = c.args.self.now.resolved.now in
-    let depth = c.args.self.now.depth in
-    let state = c.args.state.now in
-    let out = g.O.Output.state c.args.out.now in
-    let p = program_seen resolved in
-    let go = part resolved depth in
-    let uses = names resolved in
-    wrong_comes state (subst (λ (t : Tree). Right (shape resolved depth t) state) (tree_of_kind uses c.args.e.now _ _ c.in-If.is (kind_if_any uses _ _ _)) c.requires.right)
 
 pub unreachable-requires-in-Throw : goal.unreachable-requires-in-Throw
 unreachable-requires-in-Throw g c =
@@ -98,17 +44,6 @@ unreachable-requires-in-Some g c =
     let go = part resolved depth in
     let uses = names resolved in
     wrong_comes state (subst (λ (t : Tree). Right (shape resolved depth t) state) (tree_of_kind uses c.args.e.now _ _ (c.in-Call.is ∙ ap (e.Call c.in-Call.callee c.in-Call.arguments) c.in-Some.is) (kind_call_with uses _ _ _)) c.requires.right)
-
-pub unreachable-requires-in-Return : goal.unreachable-requires-in-Return
-unreachable-requires-in-Return g c =
-    let resolved = c.args.self.now.resolved.now in
-    let depth = c.args.self.now.depth in
-    let state = c.args.state.now in
-    let out = g.O.Output.state c.args.out.now in
-    let p = program_seen resolved in
-    let go = part resolved depth in
-    let uses = names resolved in
-    wrong_comes state (same_right _ _ state (return_closed p go uses _ _ _ _) (subst (λ (t : Tree). Right (shape resolved depth t) state) (tree_of_kind uses c.args.e.now _ _ c.in-Return.is refl) c.requires.right))
 
 pub unreachable-requires-in_default : goal.unreachable-requires-in_default
 unreachable-requires-in_default g c =
@@ -353,3 +288,146 @@ returns-in-Equal g c =
     let here = scene state out in
     let end = scene c.binary-in-Equal.new.state (g.O.Output.state c.binary-in-Equal.new.out) in
     subst (λ (t : Tree). Runs (shape resolved depth t) here c.binary-in-Equal.result end) (sym (tree_of_kind uses c.args.e.now _ _ c.in-Equal.is (kind_equal uses _ _ _))) c.binary-in-Equal.ensures
+
+pub returns-in-Bool : goal.returns-in-Bool
+returns-in-Bool g c =
+    let resolved = c.args.self.now.resolved.now in
+    let depth = c.args.self.now.depth in
+    let state = c.args.state.now in
+    let out = g.O.Output.state c.args.out.now in
+    let p = program_seen resolved in
+    let go = part resolved depth in
+    let uses = names resolved in
+    let here = scene state out in
+    subst (λ (t : Tree). Runs (shape resolved depth t) here (Ok (value.Bool c.in-Bool.truth)) here) (sym (tree_of_kind uses c.args.e.now _ _ c.in-Bool.is (kind_bool uses _))) (pure_runs (value.Bool c.in-Bool.truth) here)
+
+pub negation-requires-clause-right : goal.negation-requires-clause-right
+negation-requires-clause-right g c =
+    let resolved = c.args.self.now.resolved.now in
+    let depth = c.args.self.now.depth in
+    let state = c.args.state.now in
+    let out = g.O.Output.state c.args.out.now in
+    let p = program_seen resolved in
+    let go = part resolved depth in
+    let uses = names resolved in
+    (subst (λ (t : Tree). Right (shape resolved depth t) state) (tree_of_kind uses c.args.e.now _ _ c.in-Not.is (kind_not uses _)) c.requires.right)
+
+pub returns-in-Not : goal.returns-in-Not
+returns-in-Not g c =
+    let resolved = c.args.self.now.resolved.now in
+    let depth = c.args.self.now.depth in
+    let state = c.args.state.now in
+    let out = g.O.Output.state c.args.out.now in
+    let p = program_seen resolved in
+    let go = part resolved depth in
+    let uses = names resolved in
+    let here = scene state out in
+    let end = scene c.negation.new.state (g.O.Output.state c.negation.new.out) in
+    subst (λ (t : Tree). Runs (shape resolved depth t) here c.negation.result end) (sym (tree_of_kind uses c.args.e.now _ _ c.in-Not.is (kind_not uses _))) c.negation.ensures
+
+pub conjunction-requires-clause-right : goal.conjunction-requires-clause-right
+conjunction-requires-clause-right g c =
+    let resolved = c.args.self.now.resolved.now in
+    let depth = c.args.self.now.depth in
+    let state = c.args.state.now in
+    let out = g.O.Output.state c.args.out.now in
+    let p = program_seen resolved in
+    let go = part resolved depth in
+    let uses = names resolved in
+    (subst (λ (t : Tree). Right (shape resolved depth t) state) (tree_of_kind uses c.args.e.now _ _ c.in-And.is (kind_and uses _ _)) c.requires.right)
+
+pub returns-in-And : goal.returns-in-And
+returns-in-And g c =
+    let resolved = c.args.self.now.resolved.now in
+    let depth = c.args.self.now.depth in
+    let state = c.args.state.now in
+    let out = g.O.Output.state c.args.out.now in
+    let p = program_seen resolved in
+    let go = part resolved depth in
+    let uses = names resolved in
+    let here = scene state out in
+    let end = scene c.conjunction.new.state (g.O.Output.state c.conjunction.new.out) in
+    subst (λ (t : Tree). Runs (shape resolved depth t) here c.conjunction.result end) (sym (tree_of_kind uses c.args.e.now _ _ c.in-And.is (kind_and uses _ _))) c.conjunction.ensures
+
+pub disjunction-requires-clause-right : goal.disjunction-requires-clause-right
+disjunction-requires-clause-right g c =
+    let resolved = c.args.self.now.resolved.now in
+    let depth = c.args.self.now.depth in
+    let state = c.args.state.now in
+    let out = g.O.Output.state c.args.out.now in
+    let p = program_seen resolved in
+    let go = part resolved depth in
+    let uses = names resolved in
+    (subst (λ (t : Tree). Right (shape resolved depth t) state) (tree_of_kind uses c.args.e.now _ _ c.in-Or.is (kind_or uses _ _)) c.requires.right)
+
+pub returns-in-Or : goal.returns-in-Or
+returns-in-Or g c =
+    let resolved = c.args.self.now.resolved.now in
+    let depth = c.args.self.now.depth in
+    let state = c.args.state.now in
+    let out = g.O.Output.state c.args.out.now in
+    let p = program_seen resolved in
+    let go = part resolved depth in
+    let uses = names resolved in
+    let here = scene state out in
+    let end = scene c.disjunction.new.state (g.O.Output.state c.disjunction.new.out) in
+    subst (λ (t : Tree). Runs (shape resolved depth t) here c.disjunction.result end) (sym (tree_of_kind uses c.args.e.now _ _ c.in-Or.is (kind_or uses _ _))) c.disjunction.ensures
+
+pub choice-requires-clause-right : goal.choice-requires-clause-right
+choice-requires-clause-right g c =
+    let resolved = c.args.self.now.resolved.now in
+    let depth = c.args.self.now.depth in
+    let state = c.args.state.now in
+    let out = g.O.Output.state c.args.out.now in
+    let p = program_seen resolved in
+    let go = part resolved depth in
+    let uses = names resolved in
+    (subst (λ (t : Tree). Right (shape resolved depth t) state) (tree_of_kind uses c.args.e.now _ _ c.in-If.is (kind_if_any uses _ _ _)) c.requires.right)
+
+pub returns-in-If : goal.returns-in-If
+returns-in-If g c =
+    let resolved = c.args.self.now.resolved.now in
+    let depth = c.args.self.now.depth in
+    let state = c.args.state.now in
+    let out = g.O.Output.state c.args.out.now in
+    let p = program_seen resolved in
+    let go = part resolved depth in
+    let uses = names resolved in
+    let here = scene state out in
+    let end = scene c.choice.new.state (g.O.Output.state c.choice.new.out) in
+    subst (λ (t : Tree). Runs (shape resolved depth t) here c.choice.result end) (sym (tree_of_kind uses c.args.e.now _ _ c.in-If.is (kind_if_any uses _ _ _))) c.choice.ensures
+
+pub give_back-requires-clause-right : goal.give_back-requires-clause-right
+give_back-requires-clause-right g c =
+    let resolved = c.args.self.now.resolved.now in
+    let depth = c.args.self.now.depth in
+    let state = c.args.state.now in
+    let out = g.O.Output.state c.args.out.now in
+    let p = program_seen resolved in
+    let go = part resolved depth in
+    let uses = names resolved in
+    (subst (λ (t : Tree). Right (shape resolved depth t) state) (tree_of_kind uses c.args.e.now _ _ (c.in-Return.is ∙ ap (λ l. e.Return l c.in-Return.value) c.in-None-label.is) (kind_return_any uses _)) c.requires.right)
+
+pub returns-in-None-label : goal.returns-in-None-label
+returns-in-None-label g c =
+    let resolved = c.args.self.now.resolved.now in
+    let depth = c.args.self.now.depth in
+    let state = c.args.state.now in
+    let out = g.O.Output.state c.args.out.now in
+    let p = program_seen resolved in
+    let go = part resolved depth in
+    let uses = names resolved in
+    let here = scene state out in
+    let end = scene c.give_back.new.state (g.O.Output.state c.give_back.new.out) in
+    subst (λ (t : Tree). Runs (shape resolved depth t) here c.give_back.result end) (sym (tree_of_kind uses c.args.e.now _ _ (c.in-Return.is ∙ ap (λ l. e.Return l c.in-Return.value) c.in-None-label.is) (kind_return_any uses _))) c.give_back.ensures
+
+pub unreachable-requires-in-Some-label : goal.unreachable-requires-in-Some-label
+unreachable-requires-in-Some-label g c =
+    let resolved = c.args.self.now.resolved.now in
+    let depth = c.args.self.now.depth in
+    let state = c.args.state.now in
+    let out = g.O.Output.state c.args.out.now in
+    let p = program_seen resolved in
+    let go = part resolved depth in
+    let uses = names resolved in
+    wrong_comes state (subst (λ (t : Tree). Right (shape resolved depth t) state) (tree_of_kind uses c.args.e.now _ _ (c.in-Return.is ∙ ap (λ l. e.Return l c.in-Return.value) c.in-Some-label.is) (kind_return_at_any uses _ _)) c.requires.right)

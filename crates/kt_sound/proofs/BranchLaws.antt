@@ -1,0 +1,155 @@
+-- The laws of soundness: `if` and `return`.
+use Rattle.std.proofs.Common.{◌≡◌, Bool, true, false, Option, Some, None, List, [], ◌∷◌, ◌++◌, Contains, inr, refl, sym, subst}
+use Rattle.kt_model.specs.BodyTrees.{Mark, Tree, Trees, Empty', First', If', Return'}
+use Rattle.kt_model.specs.ControlFlow.{FlowContext, Exits, Then, Branch, in_of, out_of, enter, entry_of, leave_edges, on, edges, all_edges}
+use Rattle.kt_model.specs.NodePaths.{assigned_after}
+use Rattle.kt_model.specs.TreesWithin.{trees_in, all_trees_in}
+use Rattle.kt_model.specs.declared.graph.Variable.{Variable}
+use Rattle.kt_model.specs.declared.kinds.KtType.{KtType}
+use Rattle.kt_model.proofs.ListLemmas.{Has, has_left, has_right}
+use Rattle.kt_typing.specs.declared.claims.Way.{Way}
+use Rattle.kt_typing.specs.declared.claims.Way.TheVariants.{Unvalued, Checked}
+use Rattle.kt_typing.specs.declared.claims.Claim.TheVariants as claim
+use Rattle.kt_typing.specs.Typing.{Each, TypeContext, LocalTypes, Judgement, Judgements, branched, closed, count, boolean, unit, is_unit, unit_if, bare_return, return_claim, value_way, judged, all_judged}
+use Rattle.kt_mean.specs.declared.states.Value.{Value}
+use Rattle.kt_mean.specs.declared.states.Value.TheVariants as value
+use Rattle.kt_mean.specs.declared.states.Way.TheVariants.{Return}
+use Rattle.kt_mean.specs.Frames.{State, Ending, Gave, Left, Over, Wrong, ◌>>=◌, leave}
+use Rattle.kt_mean.specs.Evaluation.{Program, fits, block, returned, tree_at}
+use Rattle.kt_sound.proofs.TypingSteps.{none_in, Known, Kept, kept_trees}
+use Rattle.kt_sound.proofs.NoFinding.{not_open_none, parts_none, closed_stood, return_decided, typed_tree, typed_trees}
+use Rattle.kt_sound.proofs.ValueTypes.{Lies, unit_is}
+use Rattle.kt_sound.proofs.Operations.{breaks-gives}
+use Rattle.kt_sound.proofs.BodyStanding.{Place, Within, Accepted, AllAccepted, Gives, AllGive, Post, Eval, KeepsAt, Keeps}
+use Rattle.kt_sound.proofs.BodySteps.{within_left, within_right, ready, quiet, enters, leaves, values_post, block_post}
+use Rattle.kt_sound.proofs.BodyLaws.{Setting}
+use Rattle.kt_sound.proofs.ConditionLaws.{choice_post}
+
+-- ---- `if`
+
+module _ {p : Program} {cx : TypeContext} (g : Place p cx) (locals : LocalTypes) (c : Tree) (a b : Trees) where
+  -- the second branch is typed behind the first, whose locals it doesn't see
+  abbrev condition : Judgement
+  condition = judged cx (Checked boolean) locals c
+
+  abbrev first : Judgements
+  first = all_judged cx (Each Unvalued) condition.locals a
+
+  abbrev second : Judgements
+  second = all_judged cx (Each Unvalued) first.locals b
+
+  -- what is accepted of a condition and two branches
+  record Branches : Type 0 where
+    pub asked : Accepted g (Checked boolean) locals c
+    pub if_true : AllAccepted g (Each Unvalued) condition.locals a
+    pub if_false : AllAccepted g (Each Unvalued) first.locals b
+
+  branches : Known locals → (branched condition first second).findings ≡ [] → Kept second.locals g.locals → ((u : Tree) → Has (trees_in c ++ (all_trees_in a ++ all_trees_in b)) u → Contains (all_trees_in g.body) u) → Branches
+  branches known none covered inside =
+      let outer = none_in condition.findings (first.findings ++ second.findings) none in
+      let inner = none_in first.findings second.findings outer.1 in
+      let known_asked = (typed_tree cx (Checked boolean) locals c known outer.0).known in
+      let known_first = (typed_trees cx (Each Unvalued) condition.locals a known_asked inner.0).known in
+      let covered_first : Kept first.locals g.locals = λ x u i. covered x u (kept_trees cx (Each Unvalued) first.locals b x u i) in
+      record {
+        asked = record {
+          known = known;
+          none = outer.0;
+          covered = λ x u i. covered_first x u (kept_trees cx (Each Unvalued) condition.locals a x u i);
+          inside = λ u i. inside u (has_left (trees_in c) (all_trees_in a ++ all_trees_in b) u i);
+        };
+        if_true = record {
+          known = known_asked;
+          none = inner.0;
+          covered = covered_first;
+          inside = λ u i. inside u (has_right (trees_in c) (all_trees_in a ++ all_trees_in b) u (has_left (all_trees_in a) (all_trees_in b) u i));
+        };
+        if_false = record {
+          known = known_first;
+          none = inner.1;
+          covered = covered;
+          inside = λ u i. inside u (has_right (trees_in c) (all_trees_in a ++ all_trees_in b) u (has_right (all_trees_in a) (all_trees_in b) u i));
+        };
+      }
+
+-- where a branch ends, its tree ends, whose value nobody takes
+branch_end : {p : Program} {cx : TypeContext} (g : Place p cx) (context : FlowContext) (t : Tree) (exits : Exits) (found : Option KtType) (r : Ending Value)
+    → ((x : Variable) (b : Bool) → assigned_after (out_of context.copy t).effects x b ≡ b) → Within g.edges (leave_edges context t exits)
+    → Post g (Then (out_of context.copy t ∷ [])) Unvalued None r → Post g exits Unvalued found r
+branch_end g context t exits found (Gave v s) same w h = (leaves context t exits v w (quiet {ms = []} same h.0), tt)
+branch_end g context t exits found (Left (Return v) s) same w h = h
+branch_end g context t exits found (Over l) same w h = tt
+branch_end g context t exits found Wrong same w h = h
+
+pub law_if : (p : Program) (cx : TypeContext) → Setting p cx → (go : Eval) → Keeps p cx go → (n : Mark) (c : Tree) (a b : Trees) → KeepsAt p cx (tree_at p go) (If' n c a b)
+unfolding edges judged trees_in Has ◌>>=◌
+law_if p cx set go keeps n c a b g context exits Unvalued locals s w acc st =
+    let t = If' n c a b in
+    let out = out_of context.copy t in
+    let parts = branched (condition g locals c a b) (first g locals c a b) (second g locals c a b) in
+    let on_true = entry_of context.copy (out ∷ []) a in
+    let on_false = entry_of context.copy (out ∷ []) b in
+    let within = edges context (Branch on_true on_false) c in
+    let within_true = all_edges context (out ∷ []) a in
+    let within_false = all_edges context (out ∷ []) b in
+    let lasts = leave_edges context t exits in
+    let w1 = within_right (enter context t (in_of context.copy c ∷ [])) (within ++ (within_true ++ (within_false ++ lasts))) w in
+    let w2 = within_right within (within_true ++ (within_false ++ lasts)) w1 in
+    let w3 = within_right within_true (within_false ++ lasts) w2 in
+    let w4 = within_right within_false lasts w3 in
+    let found = (closed cx Unvalued n parts (claim.Gives unit)).found in
+    let all = branches g locals c a b acc.known (parts_none cx Unvalued n parts (claim.Gives unit) acc.none) acc.covered (λ u i. acc.inside u (inr i)) in
+    choice_post g on_true on_false exits Unvalued found (condition g locals c a b).found (go c s).ending (block p go a) (block p go b)
+    (keeps c g context (Branch on_true on_false) (Checked boolean) locals s (within_left within (within_true ++ (within_false ++ lasts)) w1) all.asked
+    (enters context.copy c (ready context (in_of context.copy c ∷ []) (within_left (enter context t (in_of context.copy c ∷ [])) (within ++ (within_true ++ (within_false ++ lasts))) w) st)))
+    (λ s' r. branch_end g context t exits found (block p go a s').ending (λ x i. refl) w4
+    (block_post go keeps a g context (Each Unvalued) (condition g locals c a b).locals (out ∷ []) value.Unit s' (within_left within_true (within_false ++ lasts) w2) all.if_true r))
+    (λ s' r. branch_end g context t exits found (block p go b s').ending (λ x i. refl) w4
+    (block_post go keeps b g context (Each Unvalued) (first g locals c a b).locals (out ∷ []) value.Unit s' (within_left within_false lasts w3) all.if_false r))
+law_if p cx set go keeps n c a b g context exits way locals s w acc st = absurd (not_open_none cx way n locals acc.none)
+
+-- ---- `return`
+
+-- `Unit` fits the result of a function that is left without a value
+bare_fits : (result : Option KtType) (n : Mark) (d : KtType) → bare_return result n ≡ claim.Gives d → fits result value.Unit ≡ true
+bare_fits None n d e = refl
+bare_fits (Some t) n d e = by (is_unit t) refl e
+  where
+    by : (b : Bool) → is_unit t ≡ b → unit_if b n ≡ claim.Gives d → Lies value.Unit t
+    by true i f = subst (λ u. Lies value.Unit u) (sym (unit_is t.head t.nullable i)) refl
+    by false i f = absurd (breaks-gives _ _ d f)
+
+value_fits : (result found : Option KtType) (v : Value) → Gives (value_way result) found v → fits result v ≡ true
+value_fits None found v h = refl
+value_fits (Some t) found v h = h.1
+
+returned_post : {p : Program} {cx : TypeContext} (g : Place p cx) (exits : Exits) (way : Way) (found : Option KtType) (n : Mark) (locals : LocalTypes) (operand : Trees) (vs : List Value) (s : State) (d : KtType)
+    → return_claim cx.result n (count operand) ≡ claim.Gives d → AllGive (Each (value_way cx.result)) (all_judged cx (Each (value_way cx.result)) locals operand).each_found vs → Post g exits way found (returned vs s).ending
+unfolding all_judged leave
+returned_post {p} {cx} g exits way found n locals Empty' [] s d e all = bare_fits cx.result n d e
+returned_post {p} {cx} g exits way found n locals Empty' (v ∷ vs) s d e all = absurd all
+returned_post {p} {cx} g exits way found n locals (First' a Empty') [] s d e all = absurd all
+returned_post {p} {cx} g exits way found n locals (First' a Empty') (v ∷ []) s d e all = value_fits cx.result (judged cx (value_way cx.result) locals a).found v all.0
+returned_post {p} {cx} g exits way found n locals (First' a Empty') (v ∷ u ∷ vs) s d e all = absurd all.1
+returned_post {p} {cx} g exits way found n locals (First' a (First' b rest)) vs s d e all = absurd (breaks-gives _ _ d e)
+
+-- Nothing follows a `return`.
+pub law_return : (p : Program) (cx : TypeContext) (go : Eval) → Keeps p cx go → (n : Mark) (operand : Trees) → KeepsAt p cx (tree_at p go) (Return' n operand)
+unfolding edges judged trees_in Has
+law_return p cx go keeps n operand g context exits way locals s w a st =
+    let t = Return' n operand in
+    let out = out_of context.copy t in
+    let way' = value_way cx.result in
+    let inner = all_judged cx (Each way') locals operand in
+    let c = return_claim cx.result n (count operand) in
+    let first = enter context t (entry_of context.copy (out ∷ []) operand) in
+    let within = all_edges context (out ∷ []) operand in
+    let lasts = on context out context.jumps.returns in
+    let w1 = within_right first (within ++ lasts) w in
+    let none = parts_none cx way n inner c a.none in
+    let types = (typed_trees cx (Each way') locals operand a.known none).types in
+    let h = closed_stood cx way n inner c types (return_decided cx.result n (count operand)) a.none in
+    values_post go keeps operand g context exits way (closed cx way n inner c).found (Each way') locals (out ∷ []) s returned (within_left within lasts w1)
+    (record { known = a.known; none = none; covered = a.covered; inside = λ u i. a.inside u (inr i) })
+    (ready context (entry_of context.copy (out ∷ []) operand) (within_left first (within ++ lasts) w) st)
+    (λ vs s' r all. returned_post g exits way (closed cx way n inner c).found n locals operand vs s' h.type h.gives all)
