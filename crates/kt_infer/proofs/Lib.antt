@@ -1,4 +1,6 @@
 pub mod Supers
 pub mod Passing
+pub mod Forms
 pub mod OtherNames
 pub mod Whole
+pub mod WaysFrom

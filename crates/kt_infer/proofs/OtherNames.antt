@@ -1,5 +1,5 @@
 -- What a name is that stands for nothing that fits.
-use Rattle.std.proofs.Common.{◌≡◌, ◌≢◌, ℕ, Bool, Option, Some, None, refl}
+use Rattle.std.proofs.Common.{◌≡◌, ◌≢◌, ℕ, Bool, Option, None, refl}
 use Rattle.kt_tree.specs.declared.token.Span.{Span}
 use Rattle.kt_tree.specs.declared.ast.part.Assignment.{Assignment}
 use Rattle.kt_model.specs.declared.uses.Named.{Named}

@@ -1,38 +1,32 @@
 -- How what is said of parts is put together.
 use Rattle.std.proofs.Common.{◌≡◌, ℕ, suc, ◌<◌, ◌&&◌, drop, drop-cons, get_or, Bool, true, false, List, [], ◌∷◌, ◌++◌, length, map, Option, Some, None, is_some, refl, sym, ap, ◌∙◌, subst, append_assoc, append-nil}
-use Rattle.std.specs.Option.{option_map}
 use Rattle.kt_tree.specs.declared.token.Span.{Span}
-use Rattle.kt_tree.specs.declared.ast.part.Sign.{Sign}
-use Rattle.kt_tree.specs.declared.ast.part.Ident.{Ident}
 use Rattle.kt_tree.specs.declared.ast.body.Expr.{Expr}
 use Rattle.kt_tree.specs.declared.ast.body.Stmt.{Stmt}
 use Rattle.kt_tree.specs.declared.ast.body.StringPart.{StringPart}
-use Rattle.kt_tree.specs.declared.ast.body.ExprKind.TheVariants as expr
-use Rattle.kt_model.proofs.BodyFolds.{tree_of_kind, kind_return_any, kind_return_at_any}
 use Rattle.kt_model.specs.declared.uses.Named.{Named}
-use Rattle.kt_model.specs.BuiltIns.{built_in_named}
-use Rattle.kt_model.specs.BodyTrees.{Tree, Trees, Mark, whole, Operation, Operation', Name', Paren', Not', And', Or', If', Declare', Local', Assign', Compound', Call', Return', Throw', Shut', Empty', First', Sum', Sign', BuiltIn', Piece, Text', Inserted', inserted_of, Seen, seen, seen_trees, seen_optional, listed, expr_tree, stmt_tree, piece}
-use Rattle.kt_typing.specs.Typing.{TypeContext, LocalTypes, Ways, Each, Then, first_way, rest_ways, Judgement, Judgements, no_trees, in_front, alone, closed, outcome, claimed, settled, type_in, finding_in, have_types, judged, all_judged, inside, enclosed, int, unit, look_up, declared, initialised, known_type, value_way, type_or_none, declaration_claim, assign_claim, name_claim, old_value, compound_claim, operation_demand, operator_demand, operator_of, call_demand, shut, count, is_text, first_of, left_way, right_way, sum_operator, built_in_signature}
-use Rattle.kt_typing.specs.declared.claims.Operator.{Operator}
-use Rattle.kt_model.specs.declared.finding.Rule.TheVariants.{Syntax}
-use Rattle.kt_infer.specs.declared.calls.Signature.{Signature}
-use Rattle.kt_infer.specs.declared.calls.Demand.{Demand}
-use Rattle.kt_infer.specs.Demands.{as_signature, as_demand}
+use Rattle.kt_model.specs.BodyTrees.{Tree, Trees, Mark, whole, Paren', Empty', First', Piece, Text', Inserted', inserted_of, Seen, seen, seen_trees, seen_optional, listed, expr_tree, stmt_tree, piece}
+use Rattle.kt_typing.specs.Typing.{TypeContext, LocalTypes, Ways, Each, Then, first_way, rest_ways, Judgement, Judgements, no_trees, in_front, alone, closed, outcome, type_in, finding_in, have_types, judged, all_judged, inside, old_value, last_of, count}
 use Rattle.kt_model.specs.Classes.{Classes}
 use Rattle.kt_model.specs.declared.kinds.KtType.{KtType}
-use Rattle.kt_model.specs.declared.finding.Finding.{Finding}
-use Rattle.kt_typing.specs.declared.claims.TypeRow.{TypeRow}
 use Rattle.kt_typing.specs.declared.claims.Way.{Way}
 use Rattle.kt_typing.specs.declared.claims.Way.TheVariants.{Unvalued, Plain, Inferred, Checked}
 use Rattle.kt_typing.specs.declared.claims.Claim.{Claim}
 use Rattle.kt_typing.specs.declared.claims.Claim.TheVariants.{Gives, Breaks, Lacks}
-use Rattle.kt_infer.specs.Noting.{Keeps, Judges, JudgesAll, IsOpened, OpensIn, Opens, Closes, Continues, outcome_of, own_rows, rows_of}
+use Rattle.kt_infer.specs.Noting.{Keeps, Judges, JudgesAll, IsOpened, OpensIn, Opens, OpensAs, Closes, Continues, ContinuesBranch, is_valued, by_last, ends_typed, outcome_of, own_rows, rows_of}
 use Rattle.kt_infer.specs.declared.notes.Notes.{Notes}
 use Rattle.kt_infer.specs.declared.notes.Opened.{Opened}
 
 -- the same under other names
 pub same_tree : {cx : TypeContext} {a b : Notes} {t u : Tree} {o : Opened} → u ≡ t → Opens cx a b t o → Opens cx a b u o
 same_tree {cx} {a} {b} {t} {u} {o} e w = subst (λ r. Opens cx a b r o) (sym e) w
+
+-- in every way, so in those where the value is taken, or not
+pub every : {cx : TypeContext} {a b : Notes} {t u : Tree} {o : Opened} (valued : Bool) → u ≡ t → Opens cx a b t o → OpensAs cx valued a b u o
+every {cx} {a} {b} {t} {u} {o} valued e p = let w : Opens cx a b u o = same_tree e p in record { in_such_way = λ way k. w.in_way way }
+
+pub same_such : {cx : TypeContext} {a b : Notes} {t u : Tree} {o : Opened} {valued : Bool} → u ≡ t → OpensAs cx valued a b t o → OpensAs cx valued a b u o
+same_such {cx} {a} {b} {t} {u} {o} {valued} e w = subst (λ r. OpensAs cx valued a b r o) (sym e) w
 
 pub same_judgements : {a b : Notes} {js ks : Judgements} {k : Bool} → ks ≡ js → JudgesAll a b js k → JudgesAll a b ks k
 same_judgements {a} {b} {js} {ks} {k} e w = subst (λ r. JudgesAll a b r k) (sym e) w
@@ -100,10 +94,10 @@ two cx t u left right p q = first cx t (First' u Empty') (Then left (Each right)
 
 -- ---- a tree is opened, then ended in its way
 
-pub ends : {cx : TypeContext} {a b c : Notes} {t : Tree} {o : Opened} {f : Option KtType} (way : Way)
-    → Opens cx a b t o → Closes b c (outcome_of cx.classes way o) o f → Judges a c (judged cx way a.locals.entries t) f
-ends {cx} {a} {b} {c} {t} {o} way p q =
-    let i : OpensIn a b (judged cx way a.locals.entries t) (outcome_of cx.classes way o) o = p.in_way way in
+pub ends : {cx : TypeContext} {a b c : Notes} {t : Tree} {o : Opened} {f : Option KtType} {valued : Bool} (way : Way) → is_valued way ≡ valued
+    → OpensAs cx valued a b t o → Closes b c (outcome_of cx.classes way o) o f → Judges a c (judged cx way a.locals.entries t) f
+ends {cx} {a} {b} {c} {t} {o} way k p q =
+    let i : OpensIn a b (judged cx way a.locals.entries t) (outcome_of cx.classes way o) o = p.in_such_way way k in
     record {
       same_type = q.closed_type ∙ sym i.open_type;
       more_rows = q.closed_rows ∙ sym i.open_rows;
@@ -112,12 +106,16 @@ ends {cx} {a} {b} {c} {t} {o} way p q =
     }
 
 -- the same in a way under another name
-pub ends_in : {cx : TypeContext} {a b c : Notes} {t : Tree} {o : Opened} {f : Option KtType} (way : Way) {w : Way} → w ≡ way
-    → Opens cx a b t o → Closes b c (outcome_of cx.classes w o) o f → Judges a c (judged cx way a.locals.entries t) f
-ends_in {cx} {a} {b} {c} {t} {o} {f} way e p q = ends way p (subst (λ v. Closes b c (outcome_of cx.classes v o) o f) e q)
+pub ends_in : {cx : TypeContext} {a b c : Notes} {t : Tree} {o : Opened} {f : Option KtType} {valued : Bool} (way : Way) → is_valued way ≡ valued → {w : Way} → w ≡ way
+    → OpensAs cx valued a b t o → Closes b c (outcome_of cx.classes w o) o f → Judges a c (judged cx way a.locals.entries t) f
+ends_in {cx} {a} {b} {c} {t} {o} {f} way k e p q = ends way k p (subst (λ v. Closes b c (outcome_of cx.classes v o) o f) e q)
 
 pub judges_in : (cx : TypeContext) {a b : Notes} (t : Tree) {f : Option KtType} (way : Way) {w : Way} → w ≡ way → Judges a b (judged cx w a.locals.entries t) f → Judges a b (judged cx way a.locals.entries t) f
 judges_in cx {a} {b} t {f} way e p = subst (λ v. Judges a b (judged cx v a.locals.entries t) f) e p
+
+-- a part behind a reference
+pub judges_of : (cx : TypeContext) {a b : Notes} (uses : ℕ → Named) (way : Way) {x y : Expr} {f : Option KtType} → y ≡ x → Judges a b (judged cx way a.locals.entries (expr_tree uses y)) f → Judges a b (judged cx way a.locals.entries (expr_tree uses x)) f
+judges_of cx {a} {b} uses way {x} {y} {f} e p = subst (λ z. Judges a b (judged cx way a.locals.entries (expr_tree uses z)) f) e p
 
 pub opened_if : {o : Opened} {n : ℕ} {at : Span} {m k : Bool} {claim : Claim} → m ≡ k → IsOpened o n at m claim → IsOpened o n at k claim
 opened_if {o} {n} {at} {m} {k} {claim} e p = subst (λ b. IsOpened o n at b claim) e p
@@ -125,42 +123,45 @@ opened_if {o} {n} {at} {m} {k} {claim} e p = subst (λ b. IsOpened o n at b clai
 pub same_keeps : {a b : Notes} {l m : LocalTypes} → l ≡ m → Keeps a b l → Keeps a b m
 same_keeps {a} {b} e p = subst (λ l. Keeps a b l) e p
 
-same_outcome : (classes : Classes) (way : Way) (o : Opened) (n : ℕ) (at : Span) (k : Bool) (claim : Claim) → IsOpened o n at k claim → outcome_of classes way o ≡ outcome classes way at k claim
+pub same_outcome : (classes : Classes) (way : Way) (o : Opened) (n : ℕ) (at : Span) (k : Bool) (claim : Claim) → IsOpened o n at k claim → outcome_of classes way o ≡ outcome classes way at k claim
 same_outcome classes way o n at k claim h =
     ap (λ s. outcome classes way s o.complete o.claim) h.same_span
     ∙ ap (λ b. outcome classes way at b o.claim) h.same_complete
     ∙ ap (outcome classes way at k) h.same_claim
 
--- a tree by its parts and what it is where they have types
-pub opens : (cx : TypeContext) {a b : Notes} (t : Tree) {o : Opened} {complete : Bool} {made : Claim} (n : Mark) (parts : Judgements) (claim : Claim)
-    → ((way : Way) → judged cx way a.locals.entries t ≡ closed cx way n parts claim)
-    → JudgesAll a b parts complete → made ≡ claim → IsOpened o n.number n.span complete made → Opens cx a b t o
-opens cx {a} {b} t {o} {complete} {made} n parts claim form p m q = record { in_way = in_way }
+-- a tree in a way, by its parts and what it is where they have types
+pub opens_in : (cx : TypeContext) {a b : Notes} (t : Tree) {o : Opened} {complete : Bool} {made : Claim} (n : Mark) (parts : Judgements) (claim : Claim) (way : Way)
+    → judged cx way a.locals.entries t ≡ closed cx way n parts claim
+    → JudgesAll a b parts complete → made ≡ claim → IsOpened o n.number n.span complete made → OpensIn a b (judged cx way a.locals.entries t) (outcome_of cx.classes way o) o
+opens_in cx {a} {b} t {o} {complete} {made} n parts claim way form p m q = record {
+  open_type = ap (λ j. j.found) form ∙ ap type_in (sym same);
+  open_rows =
+      ap (λ j. a.rows ++ j.rows) form
+      ∙ sym (append_assoc a.rows parts.rows (rows_of (n.number ∷ []) (type_in (outcome cx.classes way n.span (have_types parts.each_found) claim))))
+      ∙ ap (λ l. l ++ rows_of (n.number ∷ []) (type_in (outcome cx.classes way n.span (have_types parts.each_found) claim))) (sym p.all_rows)
+      ∙ ap (λ r. b.rows ++ rows_of (n.number ∷ []) (type_in r)) (sym same)
+      ∙ ap (λ l. b.rows ++ l) (row (type_in (outcome_of cx.classes way o)));
+  open_findings =
+      ap (λ j. a.findings.items ++ j.findings) form
+      ∙ sym (append_assoc a.findings.items parts.findings (finding_in (outcome cx.classes way n.span (have_types parts.each_found) claim)))
+      ∙ ap (λ l. l ++ finding_in (outcome cx.classes way n.span (have_types parts.each_found) claim)) (sym p.all_findings)
+      ∙ ap (λ r. b.findings.items ++ finding_in r) (sym same);
+  open_locals = p.all_locals ∙ ap (λ j. j.locals) (sym form);
+}
   where
-    same : (way : Way) → outcome_of cx.classes way o ≡ outcome cx.classes way n.span (have_types parts.each_found) claim
-    same way =
+    same : outcome_of cx.classes way o ≡ outcome cx.classes way n.span (have_types parts.each_found) claim
+    same =
         same_outcome cx.classes way o n.number n.span complete made q ∙ ap (outcome cx.classes way n.span complete) m
         ∙ ap (λ b. outcome cx.classes way n.span b claim) p.same_types
 
     row : (found : Option KtType) → rows_of (n.number ∷ []) found ≡ own_rows o found
     row found = ap (λ l. rows_of (n.number ∷ l) found) (sym q.no_parens) ∙ ap (λ m. rows_of (m ∷ o.parens.items) found) (sym q.same_number)
 
-    in_way : (way : Way) → OpensIn a b (judged cx way a.locals.entries t) (outcome_of cx.classes way o) o
-    in_way way = record {
-      open_type = ap (λ j. j.found) (form way) ∙ ap type_in (sym (same way));
-      open_rows =
-          ap (λ j. a.rows ++ j.rows) (form way)
-          ∙ sym (append_assoc a.rows parts.rows (rows_of (n.number ∷ []) (type_in (outcome cx.classes way n.span (have_types parts.each_found) claim))))
-          ∙ ap (λ l. l ++ rows_of (n.number ∷ []) (type_in (outcome cx.classes way n.span (have_types parts.each_found) claim))) (sym p.all_rows)
-          ∙ ap (λ r. b.rows ++ rows_of (n.number ∷ []) (type_in r)) (sym (same way))
-          ∙ ap (λ l. b.rows ++ l) (row (type_in (outcome_of cx.classes way o)));
-      open_findings =
-          ap (λ j. a.findings.items ++ j.findings) (form way)
-          ∙ sym (append_assoc a.findings.items parts.findings (finding_in (outcome cx.classes way n.span (have_types parts.each_found) claim)))
-          ∙ ap (λ l. l ++ finding_in (outcome cx.classes way n.span (have_types parts.each_found) claim)) (sym p.all_findings)
-          ∙ ap (λ r. b.findings.items ++ finding_in r) (sym (same way));
-      open_locals = p.all_locals ∙ ap (λ j. j.locals) (sym (form way));
-    }
+-- the same in every way
+pub opens : (cx : TypeContext) {a b : Notes} (t : Tree) {o : Opened} {complete : Bool} {made : Claim} (n : Mark) (parts : Judgements) (claim : Claim)
+    → ((way : Way) → judged cx way a.locals.entries t ≡ closed cx way n parts claim)
+    → JudgesAll a b parts complete → made ≡ claim → IsOpened o n.number n.span complete made → Opens cx a b t o
+opens cx t n parts claim form p m q = record { in_way = λ way. opens_in cx t n parts claim way (form way) p m q }
 
 -- ---- parentheses
 
@@ -177,8 +178,14 @@ rows_of-append : (xs ys : List ℕ) (found : Option KtType) → rows_of (xs ++ y
 rows_of-append [] ys found = refl
 rows_of-append (x ∷ xs) ys found = ap (λ l. record { tree = x; found = found } ∷ l) (rows_of-append xs ys found)
 
+inside_valued : (way : Way) → is_valued (inside way) ≡ true
+inside_valued Unvalued = refl
+inside_valued Plain = refl
+inside_valued Inferred = refl
+inside_valued (Checked t) = refl
+
 -- one more pair round a tree
-pub encloses : {cx : TypeContext} {a b : Notes} {t : Tree} {o q : Opened} (n : Mark) → Opens cx a b t o
+pub encloses : {cx : TypeContext} {a b : Notes} {t : Tree} {o q : Opened} (n : Mark) → OpensAs cx true a b t o
     → q.number ≡ o.number → q.span ≡ o.span → q.complete ≡ o.complete → q.claim ≡ o.claim → q.parens.items ≡ o.parens.items ++ n.number ∷ []
     → Opens cx a b (Paren' n t) q
 unfolding judged
@@ -199,7 +206,7 @@ encloses {cx} {a} {b} {t} {o} {q} n p e1 e2 e3 e4 e5 = record { in_way = in_way 
 
     in_way : (way : Way) → OpensIn a b (judged cx way a.locals.entries (Paren' n t)) (outcome_of cx.classes way q) q
     in_way way =
-        let i : OpensIn a b (judged cx (inside way) a.locals.entries t) (outcome_of cx.classes (inside way) o) o = p.in_way (inside way) in
+        let i : OpensIn a b (judged cx (inside way) a.locals.entries t) (outcome_of cx.classes (inside way) o) o = p.in_such_way (inside way) (inside_valued way) in
         let inner = judged cx (inside way) a.locals.entries t in
         record {
           open_type = i.open_type ∙ ap type_in (same way);
@@ -213,173 +220,6 @@ encloses {cx} {a} {b} {t} {o} {q} n p e1 e2 e3 e4 e5 = record { in_way = in_way 
           open_findings = i.open_findings ∙ ap (λ r. b.findings.items ++ finding_in r) (same way);
           open_locals = i.open_locals;
         }
-
--- ---- forms
-
-pub opens_shut : (cx : TypeContext) (a : Notes) (n : Mark) {o : Opened} → IsOpened o n.number n.span true (Breaks Syntax n.span) → Opens cx a a (Shut' n) o
-unfolding judged
-opens_shut cx a n q = opens cx (Shut' n) n (no_trees a.locals.entries) (Breaks Syntax n.span) (λ way. refl) (none a) refl q
-
-pub opens_name : (cx : TypeContext) (a : Notes) (n : ℕ) (at : Span) (x : ℕ) {o : Opened} {made : Claim}
-    → made ≡ name_claim at (look_up a.locals.entries x) → IsOpened o n at true made → Opens cx a a (Name' (whole n at) at x) o
-unfolding judged
-opens_name cx a n at x m q = opens cx (Name' (whole n at) at x) (whole n at) (no_trees a.locals.entries) (name_claim at (look_up a.locals.entries x)) (λ way. refl) (none a) m q
-
--- an operation without parts
-pub opens_leaf : (cx : TypeContext) (a : Notes) (n : Mark) (operation : Operation) (claim : Claim) {o : Opened}
-    → ((text : Bool) → (operation_demand n operation text 0).claim ≡ claim) → IsOpened o n.number n.span true claim → Opens cx a a (Operation' n operation Empty') o
-unfolding judged
-opens_leaf cx a n operation claim e q =
-    opens cx (Operation' n operation Empty') n (no_trees a.locals.entries) claim (λ way. ap (closed cx way n (no_trees a.locals.entries)) (e false)) (none a) refl q
-
--- the other forms that are not open
-pub opens_not : (cx : TypeContext) (a : Notes) (n : Mark) (e : Tree) {o : Opened} → IsOpened o n.number n.span true (Breaks Syntax n.span) → Opens cx a a (Not' n e) o
-unfolding judged
-opens_not cx a n e q = opens cx (Not' n e) n (no_trees a.locals.entries) (Breaks Syntax n.span) (λ way. refl) (none a) refl q
-
-pub opens_and : (cx : TypeContext) (a : Notes) (n : Mark) (x y : Tree) {o : Opened} → IsOpened o n.number n.span true (Breaks Syntax n.span) → Opens cx a a (And' n x y) o
-unfolding judged
-opens_and cx a n x y q = opens cx (And' n x y) n (no_trees a.locals.entries) (Breaks Syntax n.span) (λ way. refl) (none a) refl q
-
-pub opens_or : (cx : TypeContext) (a : Notes) (n : Mark) (x y : Tree) {o : Opened} → IsOpened o n.number n.span true (Breaks Syntax n.span) → Opens cx a a (Or' n x y) o
-unfolding judged
-opens_or cx a n x y q = opens cx (Or' n x y) n (no_trees a.locals.entries) (Breaks Syntax n.span) (λ way. refl) (none a) refl q
-
-pub opens_if : (cx : TypeContext) (a : Notes) (n : Mark) (e : Tree) (x y : Trees) {o : Opened} → IsOpened o n.number n.span true (Breaks Syntax n.span) → Opens cx a a (If' n e x y) o
-unfolding judged
-opens_if cx a n e x y q = opens cx (If' n e x y) n (no_trees a.locals.entries) (Breaks Syntax n.span) (λ way. refl) (none a) refl q
-
-pub opens_throw : (cx : TypeContext) (a : Notes) (n : Mark) (e : Tree) {o : Opened} → IsOpened o n.number n.span true (Breaks Syntax n.span) → Opens cx a a (Throw' n e) o
-unfolding judged
-opens_throw cx a n e q = opens cx (Throw' n e) n (no_trees a.locals.entries) (Breaks Syntax n.span) (λ way. refl) (none a) refl q
-
-opens_return : (cx : TypeContext) (a : Notes) (n : Mark) (ts : Trees) {o : Opened} → IsOpened o n.number n.span true (Breaks Syntax n.span) → Opens cx a a (Return' n ts) o
-unfolding judged
-opens_return cx a n ts q = opens cx (Return' n ts) n (no_trees a.locals.entries) (Breaks Syntax n.span) (λ way. refl) (none a) refl q
-
-pub return_opens : (cx : TypeContext) (a : Notes) (uses : ℕ → Named) (x : Expr) (label : Option Ident) (value : Option Expr) {o : Opened}
-    → x.kind ≡ expr.Return label value → IsOpened o x.number x.span true (Breaks Syntax x.span) → Opens cx a a (expr_tree uses x) o
-return_opens cx a uses x None value is q = same_tree (tree_of_kind uses x _ _ is (kind_return_any uses value)) (opens_return cx a (whole x.number x.span) (seen_optional (option_map (seen uses) value)) q)
-return_opens cx a uses x (Some l) value is q = same_tree (tree_of_kind uses x _ _ is (kind_return_at_any uses l value)) (opens_shut cx a (whole x.number x.span) q)
-
--- a sign
-pub opens_sign : (cx : TypeContext) {a b : Notes} (n : Mark) (sign : Sign) (t : Tree) {f : Option KtType} {o : Opened}
-    → Judges a b (judged cx (Checked int) a.locals.entries t) f → IsOpened o n.number n.span (is_some f) (Gives int) → Opens cx a b (Operation' n (Sign' sign) (First' t Empty')) o
-unfolding judged
-opens_sign cx {a} {b} n sign t p q =
-    opens cx (Operation' n (Sign' sign) (First' t Empty')) n (all_judged cx (Each (Checked int)) a.locals.entries (First' t Empty')) (Gives int) (λ way. refl) (one cx t (Each (Checked int)) p) refl q
-
--- an operation that is not open
-pub opens_parts : (cx : TypeContext) {a b : Notes} (n : Mark) (operation : Operation) (parts : Trees) {k : Bool} {o : Opened}
-    → ((text : Bool) → operation_demand n operation text (count parts) ≡ shut n)
-    → JudgesAll a b (all_judged cx (Each Inferred) a.locals.entries parts) k → IsOpened o n.number n.span k (Breaks Syntax n.span) → Opens cx a b (Operation' n operation parts) o
-unfolding judged
-opens_parts cx {a} {b} n operation parts e p q =
-    let L = a.locals.entries in
-    opens cx (Operation' n operation parts) n (all_judged cx (Each Inferred) L parts) (Breaks Syntax n.span)
-    (λ way. ap (λ d. closed cx way n (all_judged cx d.ways L parts) d.claim) (e (is_text (first_of (all_judged cx (Each Inferred) L parts).each_found)))) p refl q
-
--- an operator
-ways_are : (cx : TypeContext) (L : LocalTypes) (n : Mark) (operator : Option Operator) (t u : Tree)
-    → all_judged cx (operator_demand operator n 2).ways L (First' t (First' u Empty')) ≡ all_judged cx (Then (left_way operator) (Each (right_way operator))) L (First' t (First' u Empty'))
-unfolding judged
-ways_are cx L n None t u = refl
-ways_are cx L n (Some r) t u = refl
-
-pub opens_binary : (cx : TypeContext) {a b c : Notes} (n : Mark) (operation : Operation) (operator : Option Operator) (t u : Tree) {f g : Option KtType} {o : Opened}
-    → ((text : Bool) → operation_demand n operation text 2 ≡ operator_demand (operator_of operation text) n 2)
-    → operator_of operation (is_text (judged cx Inferred a.locals.entries t).found) ≡ operator
-    → Judges a b (judged cx (left_way operator) a.locals.entries t) f → Judges b c (judged cx (right_way operator) b.locals.entries u) g
-    → IsOpened o n.number n.span (is_some f && is_some g) (operator_demand operator n 2).claim → Opens cx a c (Operation' n operation (First' t (First' u Empty'))) o
-unfolding judged
-opens_binary cx {a} {b} {c} n operation operator t u {f} {g} e is p r q =
-    let L = a.locals.entries in
-    let parts = First' t (First' u Empty') in
-    let text = is_text (judged cx Inferred L t).found in
-    opens cx (Operation' n operation parts) n (all_judged cx (operator_demand operator n 2).ways L parts) (operator_demand operator n 2).claim
-    (λ way. ap (λ d. closed cx way n (all_judged cx d.ways L parts) d.claim) (e text ∙ ap (λ w. operator_demand w n 2) is))
-    (same_judgements (ways_are cx L n operator t u) (two cx t u (left_way operator) (right_way operator) p r)) refl q
-
--- whether the left operand of a sum is a text
-pub text_operator : {cx : TypeContext} {a b : Notes} {t : Tree} {o : Opened} {operator : Option Operator} → Opens cx a b t o
-    → operator ≡ Some (sum_operator (is_text (type_in (outcome_of cx.classes Inferred o)))) → operator_of Sum' (is_text (judged cx Inferred a.locals.entries t).found) ≡ operator
-text_operator {cx} {a} {b} {t} {o} p e =
-    let i : OpensIn a b (judged cx Inferred a.locals.entries t) (outcome_of cx.classes Inferred o) o = p.in_way Inferred in
-    ap (λ f. Some (sum_operator (is_text f))) i.open_type ∙ sym e
-
--- calls
-counted : (uses : ℕ → Named) (es : List Expr) → count (seen_trees (map (seen uses) es)) ≡ length es
-counted uses [] = refl
-counted uses (e ∷ es) = ap suc (counted uses es)
-
-pub opens_call : (cx : TypeContext) {a b : Notes} (n : Mark) (f : ℕ) (returns : Bool) (uses : ℕ → Named) (es : List Expr) (s : Option Signature) (d : Demand) {k : Bool} {o : Opened}
-    → cx.signature f ≡ option_map as_signature s → call_demand (option_map as_signature s) n (length es) ≡ as_demand d
-    → JudgesAll a b (all_judged cx (Each d.way) a.locals.entries (seen_trees (map (seen uses) es))) k → IsOpened o n.number n.span k d.claim
-    → Opens cx a b (Call' n f returns (seen_trees (map (seen uses) es))) o
-unfolding judged
-opens_call cx {a} {b} n f returns uses es s d e is p q =
-    let L = a.locals.entries in
-    let parts = seen_trees (map (seen uses) es) in
-    opens cx (Call' n f returns parts) n (all_judged cx (Each d.way) L parts) d.claim
-    (λ way. ap (λ w. closed cx way n (all_judged cx w.ways L parts) w.claim) (ap (λ r. call_demand r n (count parts)) e ∙ ap (call_demand (option_map as_signature s) n) (counted uses es) ∙ is)) p refl q
-
-pub opens_built_in : (cx : TypeContext) {a b : Notes} (n : Mark) (name : ℕ) (returns : Bool) (uses : ℕ → Named) (es : List Expr) (s : Option Signature) (d : Demand) {k : Bool} {o : Opened}
-    → option_map built_in_signature (built_in_named name) ≡ option_map as_signature s → call_demand (option_map as_signature s) n (length es) ≡ as_demand d
-    → JudgesAll a b (all_judged cx (Each d.way) a.locals.entries (seen_trees (map (seen uses) es))) k → IsOpened o n.number n.span k d.claim
-    → Opens cx a b (Operation' n (BuiltIn' name returns) (seen_trees (map (seen uses) es))) o
-unfolding judged
-opens_built_in cx {a} {b} n name returns uses es s d e is p q =
-    let L = a.locals.entries in
-    let parts = seen_trees (map (seen uses) es) in
-    opens cx (Operation' n (BuiltIn' name returns) parts) n (all_judged cx (Each d.way) L parts) d.claim
-    (λ way. ap (λ w. closed cx way n (all_judged cx w.ways L parts) w.claim) (ap (λ r. call_demand r n (count parts)) e ∙ ap (call_demand (option_map as_signature s) n) (counted uses es) ∙ is)) p refl q
-
--- statements
-pub opens_declare : (cx : TypeContext) {a b : Notes} (n : Mark) (x : ℕ) {o : Opened} → Keeps a b (declared a.locals.entries x (cx.written x))
-    → IsOpened o n.number n.span true (Gives unit) → Opens cx a b (Declare' n x) o
-unfolding judged
-opens_declare cx {a} {b} n x p q = opens cx (Declare' n x) n (no_trees (declared a.locals.entries x (cx.written x))) (Gives unit) (λ way. refl) (changed p) refl q
-
-pub opens_local : (cx : TypeContext) {a b c : Notes} (n : Mark) (at : Span) (x : ℕ) (e : Tree) {f : Option KtType} {o : Opened} {made : Claim}
-    → Judges a b (judged cx (value_way (known_type (look_up a.locals.entries x) (cx.written x))) a.locals.entries e) f
-    → Keeps b c (initialised b.locals.entries x (cx.written x) f)
-    → made ≡ declaration_claim n (look_up a.locals.entries x) (look_up b.locals.entries x)
-    → IsOpened o n.number n.span (is_some f) made → Opens cx a c (Local' n at x e) o
-unfolding judged
-opens_local cx {a} {b} {c} n at x e {f} p r m q =
-    let L = a.locals.entries in
-    let value = judged cx (value_way (known_type (look_up L x) (cx.written x))) L e in
-    let parts = alone (record value { locals = initialised value.locals x (cx.written x) value.found }) in
-    let typed : JudgesAll a b (alone value) (is_some f) = only p in
-    opens cx (Local' n at x e) n parts (declaration_claim n (look_up L x) (look_up value.locals x)) (λ way. refl)
-    (record {
-      same_types = typed.same_types;
-      all_rows = r.kept_rows ∙ typed.all_rows;
-      all_findings = r.kept_findings ∙ typed.all_findings;
-      all_locals = r.new_locals ∙ ap (λ l. initialised l x (cx.written x) f) p.same_locals ∙ ap (initialised value.locals x (cx.written x)) p.same_type;
-    }) (m ∙ ap (λ l. declaration_claim n (look_up L x) (look_up l x)) p.same_locals) q
-
-pub opens_assign : (cx : TypeContext) {a b : Notes} (n : Mark) (at : Span) (x : ℕ) (fixed : Bool) (e : Tree) {f : Option KtType} {o : Opened} {made : Claim}
-    → Judges a b (judged cx (value_way (type_or_none (look_up a.locals.entries x))) a.locals.entries e) f
-    → made ≡ assign_claim n.word (look_up a.locals.entries x) → IsOpened o n.number n.span (is_some f) made → Opens cx a b (Assign' n at x fixed e) o
-unfolding judged
-opens_assign cx {a} {b} n at x fixed e p m q =
-    opens cx (Assign' n at x fixed e) n (alone (judged cx (value_way (type_or_none (look_up a.locals.entries x))) a.locals.entries e)) (assign_claim n.word (look_up a.locals.entries x)) (λ way. refl) (only p) m q
-
-pub opens_compound : (cx : TypeContext) {a b c : Notes} (n : Mark) (at : Span) (x : ℕ) (fixed : Bool) (operation : Operation) (operator : Option Operator) (operand : Trees) {f : Option KtType} {k : Bool} {o : Opened} {made : Claim}
-    → operator_of operation (is_text (type_or_none (look_up a.locals.entries x))) ≡ operator
-    → Judges a b (old_value cx (left_way operator) n.word (look_up a.locals.entries x) a.locals.entries) f
-    → JudgesAll b c (all_judged cx (Each (right_way operator)) b.locals.entries operand) k
-    → made ≡ compound_claim cx n operator (type_or_none (look_up a.locals.entries x)) (count operand)
-    → IsOpened o n.number n.span (is_some f && k) made → Opens cx a c (Compound' n at x fixed operation operand) o
-unfolding judged
-opens_compound cx {a} {b} {c} n at x fixed operation operator operand {f} {k} e p r m q =
-    let L = a.locals.entries in
-    let old = look_up L x in
-    opens cx (Compound' n at x fixed operation operand) n (in_front (old_value cx (left_way operator) n.word old L) (all_judged cx (Each (right_way operator)) L operand))
-    (compound_claim cx n operator (type_or_none old) (count operand))
-    (λ way. ap (λ w. closed cx way n (in_front (old_value cx (left_way w) n.word old L) (all_judged cx (Each (right_way w)) L operand)) (compound_claim cx n w (type_or_none old) (count operand))) e)
-    (front p (same_judgements (ap (λ l. all_judged cx (Each (right_way operator)) l operand) (sym p.same_locals)) r)) m q
 
 -- ---- loops: what is left completes the whole
 
@@ -398,15 +238,15 @@ typed_step f None fs k e = and_false k ∙ ap (λ r. (k && is_some r) && have_ty
     and_false true = refl
     and_false false = refl
 
-pub step : (cx : TypeContext) {a b c : Notes} {whole left : Judgements} (t : Tree) (rest : Trees) {f : Option KtType} {k : Bool} (way : Way) {m : Bool}
-    → left ≡ all_judged cx (Each way) b.locals.entries (First' t rest)
-    → Continues a b whole left k → Judges b c (judged cx way b.locals.entries t) f → m ≡ (k && is_some f) → Continues a c whole (all_judged cx (Each way) c.locals.entries rest) m
+pub step : (cx : TypeContext) {a b c : Notes} {whole left : Judgements} (t : Tree) (rest : Trees) {f : Option KtType} {k : Bool} (ways : Ways) {m : Bool}
+    → left ≡ all_judged cx ways b.locals.entries (First' t rest)
+    → Continues a b whole left k → Judges b c (judged cx (first_way ways) b.locals.entries t) f → m ≡ (k && is_some f) → Continues a c whole (all_judged cx (rest_ways ways) c.locals.entries rest) m
 unfolding judged
-step cx {a} {b} {c} {whole} {left} t rest {f} {k} way {m} e p q g =
-    let j = judged cx way b.locals.entries t in
-    let later : all_judged cx (Each way) j.locals rest ≡ all_judged cx (Each way) c.locals.entries rest = ap (λ l. all_judged cx (Each way) l rest) (sym q.same_locals) in
-    let here : left ≡ in_front j (all_judged cx (Each way) c.locals.entries rest) = e ∙ ap (in_front j) later in
-    let js = all_judged cx (Each way) c.locals.entries rest in
+step cx {a} {b} {c} {whole} {left} t rest {f} {k} ways {m} e p q g =
+    let j = judged cx (first_way ways) b.locals.entries t in
+    let later : all_judged cx (rest_ways ways) j.locals rest ≡ all_judged cx (rest_ways ways) c.locals.entries rest = ap (λ l. all_judged cx (rest_ways ways) l rest) (sym q.same_locals) in
+    let here : left ≡ in_front j (all_judged cx (rest_ways ways) c.locals.entries rest) = e ∙ ap (in_front j) later in
+    let js = all_judged cx (rest_ways ways) c.locals.entries rest in
     record {
       whole_types = p.whole_types ∙ ap (λ l. k && have_types l.each_found) here ∙ typed_step f j.found js.each_found k q.same_type ∙ ap (λ r. r && have_types js.each_found) (sym g);
       whole_rows = p.whole_rows ∙ ap (λ l. b.rows ++ l.rows) here ∙ sym (append_assoc b.rows j.rows js.rows) ∙ ap (λ l. l ++ js.rows) (sym q.more_rows);
@@ -426,6 +266,55 @@ finish {a} {b} {whole} {left} {k} e p = record {
 pub finish_trees : (cx : TypeContext) {a b : Notes} {whole left : Judgements} {k : Bool} (ways : Ways) → left ≡ all_judged cx ways b.locals.entries Empty' → Continues a b whole left k → JudgesAll a b whole k
 unfolding judged
 finish_trees cx ways e p = finish e p
+
+-- the statements of a branch, of which the last alone counts as a part
+last_typed : (fs : List (Option KtType)) → have_types (last_of fs) ≡ ends_typed true fs
+last_typed [] = refl
+last_typed (Some t ∷ []) = refl
+last_typed (None ∷ []) = refl
+last_typed (f ∷ g ∷ fs) = last_typed (g ∷ fs)
+
+pub begin_branch : (a : Notes) (whole : Judgements) → ContinuesBranch a a whole whole true
+begin_branch a whole = record { last_type = last_typed whole.each_found; branch_rows = refl; branch_findings = refl; branch_locals = refl }
+
+passed : {A : Type 0} (b r rest : List A) {before l c : List A} → before ≡ b ++ l → l ≡ r ++ rest → c ≡ b ++ r → before ≡ c ++ rest
+passed b r rest p e q = p ∙ ap (λ x. b ++ x) e ∙ sym (append_assoc b r rest) ∙ ap (λ x. x ++ rest) (sym q)
+
+pub step_branch : (cx : TypeContext) {a b c : Notes} {whole left : Judgements} (t : Tree) (rest : Trees) {f : Option KtType} {k m : Bool}
+    → left ≡ all_judged cx (Each Unvalued) b.locals.entries (First' t rest)
+    → ContinuesBranch a b whole left k → Judges b c (judged cx Unvalued b.locals.entries t) f → m ≡ is_some f
+    → ContinuesBranch a c whole (all_judged cx (Each Unvalued) c.locals.entries rest) m
+unfolding judged
+step_branch cx {a} {b} {c} {whole} {left} t rest {f} {k} {m} e p q g =
+    let j = judged cx Unvalued b.locals.entries t in
+    let js = all_judged cx (Each Unvalued) c.locals.entries rest in
+    let here : left ≡ in_front j js = e ∙ ap (λ l. in_front j (all_judged cx (Each Unvalued) l rest)) (sym q.same_locals) in
+    record {
+      last_type = p.last_type ∙ ap (λ l. ends_typed k l.each_found) here ∙ ap (λ r. ends_typed r js.each_found) (sym (g ∙ ap is_some q.same_type));
+      branch_rows = passed b.rows j.rows js.rows p.branch_rows (ap (λ l. l.rows) here) q.more_rows;
+      branch_findings = passed b.findings.items j.findings js.findings p.branch_findings (ap (λ l. l.findings) here) q.more_findings;
+      branch_locals = p.branch_locals ∙ ap (λ l. l.locals) here;
+    }
+
+pub finish_branch : (cx : TypeContext) {a b : Notes} {whole left : Judgements} {k : Bool} → left ≡ all_judged cx (Each Unvalued) b.locals.entries Empty'
+    → ContinuesBranch a b whole left k → JudgesAll a b (by_last whole) k
+unfolding judged
+finish_branch cx {a} {b} {whole} {left} {k} e p = record {
+  same_types = sym (p.last_type ∙ ap (λ l. ends_typed k l.each_found) e);
+  all_rows = sym (p.branch_rows ∙ ap (λ l. b.rows ++ l.rows) e ∙ append-nil b.rows);
+  all_findings = sym (p.branch_findings ∙ ap (λ l. b.findings.items ++ l.findings) e ∙ append-nil b.findings.items);
+  all_locals = sym (p.branch_locals ∙ ap (λ l. l.locals) e);
+}
+
+-- one statement, or none, is its own last
+pub one_branch : (cx : TypeContext) {a b : Notes} (t : Tree) {f : Option KtType} (ways : Ways)
+    → Judges a b (judged cx (first_way ways) a.locals.entries t) f → JudgesAll a b (by_last (all_judged cx ways a.locals.entries (First' t Empty'))) (is_some f)
+unfolding judged
+one_branch cx {a} {b} t {f} ways p = one cx t ways p
+
+pub no_branch : (cx : TypeContext) (a : Notes) (ways : Ways) → JudgesAll a a (by_last (all_judged cx ways a.locals.entries Empty')) true
+unfolding judged
+no_branch cx a ways = none a
 
 pub nothing : (cx : TypeContext) (a : Notes) (ways : Ways) → JudgesAll a a (all_judged cx ways a.locals.entries Empty') true
 unfolding judged
@@ -458,7 +347,7 @@ piece_step cx {a} {b} {c} {all} {left} (Inserted' t) ps {f} {k} {m} way e h q g 
       more_findings = q.all_findings ∙ ap (λ l. b.findings.items ++ l) (append-nil j.findings);
       same_locals = q.all_locals;
     } in
-    step cx t (inserted_of ps) way e h turn (g ∙ ap (λ r. k && r) (q.same_types ∙ have_alone j.found))
+    step cx t (inserted_of ps) (Each way) e h turn (g ∙ ap (λ r. k && r) (q.same_types ∙ have_alone j.found))
 
 -- ---- lists of trees, in front
 

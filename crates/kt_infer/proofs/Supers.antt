@@ -1,8 +1,8 @@
 -- What is above a number that no class has: itself and `Any`.
-use Rattle.std.proofs.Common.{◌≡◌, ℕ, suc, zero, ◌≤◌, ◌==◌, ◌||◌, Bool, true, false, List, [], ◌∷◌, ◌++◌, length, map, Option, Some, None, unwrap_or, slice_get, refl, sym, ap, ◌∙◌, if◌then◌else◌, arith}
+use Rattle.std.proofs.Common.{◌≡◌, ℕ, suc, zero, ◌≤◌, ◌==◌, ◌||◌, Bool, true, false, List, [], ◌∷◌, ◌++◌, length, None, unwrap_or, slice_get, refl, sym, ap, ◌∙◌, if◌then◌else◌, arith}
 use Rattle.std.specs.List.{flat_map, list_any}
 use Rattle.std.proofs.lemmas.Bool.{eqb-true}
-use Rattle.kt_model.specs.Classes.{Classes, any, supers_of, each_once, listed, climbed, supers, outlines, written}
+use Rattle.kt_model.specs.Classes.{Classes, any, supers_of, listed, climbed, outlines, written}
 use Rattle.kt_model.specs.Subtypes.{is_under}
 use Rattle.kt_model.specs.declared.class_table.ClassRow.{ClassRow}
 

@@ -8,7 +8,7 @@ ghost use Rattle.kt_model.specs.Bodies.{body_trees_of, owner_parameters, owner_t
 ghost use Rattle.kt_model.specs.Findings.{AreFindings};
 ghost use Rattle.kt_typing.specs.Typing as spec;
 ghost use Rattle.kt_typing.specs.Typing.{IsTypingFinding, all_judged, body_judged, body_ways, owner_ways, parameter_types};
-ghost use Rattle.kt_infer.specs.Noting.{JudgesAll, Keeps, typing_of};
+ghost use Rattle.kt_infer.specs.Noting.{JudgesAll, Keeps, by_last, typing_of};
 
 use crate::calls::function_result;
 use crate::choices::value_way;
@@ -16,10 +16,10 @@ use crate::notes::Notes;
 use indexmap::IndexMap;
 use kt_model::finding::{Findings, in_order};
 use kt_model::kinds::KtType;
-use kt_typing::{Cast, TypeRow, Way};
 use kt_model::uses::{Body, Owner};
 use kt_tree::NoMemory;
 use kt_tree::ast::FunctionBody;
+use kt_typing::{Cast, TypeRow};
 use sqlite_items::Items;
 use std::alloc::Global;
 
@@ -70,14 +70,14 @@ impl Notes {
         Ok(())
     }
 
-    /// Types the trees of a body.
+    /// Types the trees of a body; whether the last has a type.
     fn trees(
         &mut self,
         body: &Body<'_>,
         trees: Option<&FunctionBody>,
         gives: Option<KtType>,
     ) -> Result<bool, NoMemory>
-        ensures { IfOk result (JudgesAll self.old self.new (all_judged (typing_of body.now) (body_ways gives (option_copied trees.entry)) self.old.locals.entries (body_trees_of (named_at body.now.uses.now) (option_copied trees.entry)))) }
+        ensures { IfOk result (JudgesAll self.old self.new (by_last (all_judged (typing_of body.now) (body_ways gives (option_copied trees.entry)) self.old.locals.entries (body_trees_of (named_at body.now.uses.now) (option_copied trees.entry))))) }
     {
         match trees {
             Some(written) => match written {
@@ -86,7 +86,7 @@ impl Notes {
                     Ok(found.is_some())
                 }
                 FunctionBody::Block { contract: _, block } => {
-                    let typed = self.statements(body, Way::Unvalued, block.statements.as_slice())?;
+                    let typed = self.statements(body, block.statements.as_slice())?;
                     Ok(typed)
                 }
             },

@@ -3,33 +3,63 @@ ghost use Rattle.std.specs.Prelude.{◌≡◌, ◌+◌, length, option_map, opti
 ghost use Rattle.kt_tree.specs.declared.token.Span.{Span};
 ghost use Rattle.kt_model.specs.BodyTrees as body;
 ghost use Rattle.kt_model.specs.BuiltIns.{BuiltIn, built_in_named};
+ghost use Rattle.kt_model.specs.NameUses.{Resolved, declaration_type, function_place, parameters_at};
 ghost use Rattle.kt_typing.specs.Typing as spec;
-ghost use Rattle.kt_infer.specs.Demands.{as_demand, as_signature};
+ghost use Rattle.kt_infer.specs.Demands.{as_demand, as_signature, as_ways, ways_from};
 
-use crate::choices::UNIT;
+use crate::choices::{UNIT, is_unit, value_way};
 use kt_model::finding::Rule;
 use kt_model::kinds::{Head, KtType};
-use kt_typing::{Claim, Way};
-use kt_model::uses::Uses;
+use kt_model::uses::{Owner, Uses};
 use kt_tree::Span;
+use kt_typing::{Claim, Way};
 
 /// How many built-in functions are open: their declarations stand before those of the file's functions.
 const OPEN_BUILT_IN: usize = 2;
 
-/// What a call needs: the least and the most number of arguments, the way of each, and what it gives.
+/// The ways of arguments: one for all, or for each that of its parameter in a function of the file.
+#[derive(Clone, Copy, Debug, PartialEq, Eq)]
+pub enum Ways {
+    Each(Way),
+    Parameters(u32),
+}
+
+/// What a call needs: the least and the most number of arguments, their ways, and what it gives.
 #[derive(Clone, Copy, Debug, PartialEq, Eq)]
 pub struct Signature {
     pub least: usize,
     pub most: usize,
-    pub way: Way,
+    pub ways: Ways,
     pub result: KtType,
 }
 
-/// The way of each argument, and what the call is where they have types.
+/// The ways of the arguments, and what the call is where they have types.
 #[derive(Clone, Copy, Debug, PartialEq, Eq)]
 pub struct Demand {
-    pub way: Way,
+    pub ways: Ways,
     pub claim: Claim,
+}
+
+/// The written type of the parameter at a place, from 0; `None` behind the last.
+fn parameter_type(uses: &Uses, parameters: &[u32], place: usize) -> Option<KtType>
+    ensures { result ≡ option_and_then (declaration_type uses.now) (slice_get parameters.now place) }
+{
+    match parameters.get(place) {
+        Some(x) => uses.written(*x as usize),
+        None => None,
+    }
+}
+
+impl Ways {
+    /// The way of the argument at a place, from 0. Behind the last parameter an argument is checked against nothing.
+    pub fn at(self, uses: &Uses, place: usize) -> Way
+        ensures { result ≡ spec.first_way (ways_from place (as_ways uses.now self)) }
+    {
+        match self {
+            Ways::Each(way) => way,
+            Ways::Parameters(f) => value_way(parameter_type(uses, uses.parameters(f), place)),
+        }
+    }
 }
 
 /// `Any?`
@@ -40,85 +70,91 @@ const ANY: KtType = KtType {
 
 /// What a call of a built-in function needs, where it is open.
 pub fn built_in_signature(name: u32) -> Option<Signature>
-    ensures { option_map spec.built_in_signature (built_in_named name) ≡ option_map as_signature result }
+    ensures { (resolved : Resolved) → option_map spec.built_in_signature (built_in_named name) ≡ option_map (as_signature resolved) result }
 {
-    let way = Way::Checked(ANY);
+    let ways = Ways::Each(Way::Checked(ANY));
     match name {
         20 => Some(Signature {
             least: 0,
             most: 1,
-            way,
+            ways,
             result: UNIT,
         }),
         21 => Some(Signature {
             least: 1,
             most: 1,
-            way,
+            ways,
             result: UNIT,
         }),
         _ => None,
     }
 }
 
-fn is_unit(t: KtType) -> bool
-    ensures { result ≡ spec.is_unit t }
-{
-    matches!(t.head, Head::Unit) && !t.nullable
-}
-
 /// The written type of a function's result.
 pub fn function_result(uses: &Uses, function: u32) -> Option<KtType>
-    ensures { result ≡ spec.declaration_type uses.now (spec.function_place function) }
+    ensures { result ≡ declaration_type uses.now (function_place function) }
 {
     uses.written(OPEN_BUILT_IN + function as usize)
 }
 
-fn open_signature(parameters: &[u32], gives: Option<KtType>) -> Option<Signature>
-    ensures { spec.open_signature parameters.now gives ≡ option_map as_signature result }
+/// The written type of the result of the function whose body it is.
+pub fn owner_result(uses: &Uses, owner: Owner) -> Option<KtType>
+    ensures { result ≡ spec.owner_result uses.now owner }
 {
-    match (parameters, gives) {
-        ([], Some(t)) => {
-            if is_unit(t) {
-                Some(Signature {
-                    least: 0,
-                    most: 0,
-                    way: Way::Inferred,
-                    result: UNIT,
-                })
-            } else {
-                None
-            }
-        }
+    match owner {
+        Owner::Function(f) => function_result(uses, f),
         _ => None,
+    }
+}
+
+/// What a call of a function of the file needs, if its result is `Unit`: as many arguments as it has parameters.
+fn unit_signature(uses: &Uses, function: u32) -> Signature
+    ensures { spec.function_signature (declaration_type uses.now) (parameters_at uses.now function) spec.unit ≡ as_signature uses.now result }
+{
+    let count = uses.parameters(function).len();
+    Signature {
+        least: count,
+        most: count,
+        ways: Ways::Parameters(function),
+        result: UNIT,
     }
 }
 
 /// What a call of a function of the file needs, where it is open.
 #[tactic(auto, unfolding(kt_typing::specs::Typing::signature_of))]
 pub fn function_signature(uses: &Uses, function: u32) -> Option<Signature>
-    ensures { spec.signature_of uses.now function ≡ option_map as_signature result }
+    ensures { spec.signature_of uses.now function ≡ option_map (as_signature uses.now) result }
 {
-    open_signature(uses.parameters(function), function_result(uses, function))
+    match function_result(uses, function) {
+        Some(t) => {
+            if is_unit(t) {
+                Some(unit_signature(uses, function))
+            } else {
+                None
+            }
+        }
+        None => None,
+    }
 }
 
 /// What a call with so many arguments asks of them.
 pub fn demanded(signature: Option<Signature>, span: Span, word: Span, count: usize) -> Demand
-    ensures { (n : body.Mark) → n.span ≡ span → n.word ≡ word → spec.call_demand (option_map as_signature signature) n count ≡ as_demand result }
+    ensures { (resolved : Resolved) (n : body.Mark) → n.span ≡ span → n.word ≡ word → spec.call_demand (option_map (as_signature resolved) signature) n count ≡ as_demand resolved result }
 {
     match signature {
         None => Demand {
-            way: Way::Inferred,
+            ways: Ways::Each(Way::Inferred),
             claim: Claim::Breaks(Rule::Syntax, span),
         },
         Some(s) => {
             if s.least <= count && count <= s.most {
                 Demand {
-                    way: s.way,
+                    ways: s.ways,
                     claim: Claim::Gives(s.result),
                 }
             } else {
                 Demand {
-                    way: Way::Inferred,
+                    ways: Ways::Each(Way::Inferred),
                     claim: Claim::Breaks(Rule::ArgumentCount, word),
                 }
             }

@@ -1,17 +1,18 @@
 //! The choices by which a tree gets its type, where its parts have theirs.
-ghost use Rattle.std.specs.Prelude.{◌≡◌, ◌&&◌, Bool, Option, is_some};
+ghost use Rattle.std.specs.Prelude.{◌≡◌, ◌&&◌, ◌∷◌, [], true, Bool, Option, is_some};
 ghost use Rattle.kt_tree.specs.declared.token.Span.{Span};
 ghost use Rattle.kt_model.specs.Classes.{outlines, written};
 ghost use Rattle.kt_model.specs.BodyTrees as body;
 ghost use Rattle.kt_typing.specs.Typing as spec;
+ghost use Rattle.kt_infer.specs.Noting as noting;
 
 use crate::subtypes::is_subtype;
 use kt_model::class_table::ClassTable;
 use kt_model::finding::Rule;
 use kt_model::kinds::{Head, KtType};
-use kt_typing::{Claim, Operator, Outcome, Way};
 use kt_tree::Span;
 use kt_tree::ast::Arithmetic;
+use kt_typing::{Claim, Operator, Outcome, Way};
 
 /// `Int`
 pub const INT: KtType = KtType {
@@ -30,6 +31,25 @@ pub const UNIT: KtType = KtType {
     head: Head::Unit,
     nullable: false,
 };
+
+/// `Boolean`
+pub const BOOLEAN: KtType = KtType {
+    head: Head::Boolean,
+    nullable: false,
+};
+
+/// `Nothing`
+pub const NOTHING: KtType = KtType {
+    head: Head::Nothing,
+    nullable: false,
+};
+
+/// Whether the value of a tree in its way is taken.
+pub fn is_valued(way: Way) -> bool
+    ensures { result ≡ noting.is_valued way }
+{
+    !matches!(way, Way::Unvalued)
+}
 
 /// Whether two things hold.
 pub fn both(a: bool, b: bool) -> bool
@@ -144,6 +164,39 @@ pub fn arithmetic_operator(operator: Arithmetic) -> Option<Operator>
     }
 }
 
+/// Whether no value is of both types' heads.
+fn are_apart(a: Head, b: Head) -> bool
+    ensures { result ≡ spec.are_apart a b }
+{
+    match a {
+        Head::Int => matches!(b, Head::Boolean | Head::Str),
+        Head::Boolean => matches!(b, Head::Int | Head::Str),
+        Head::Str => matches!(b, Head::Int | Head::Boolean),
+        _ => false,
+    }
+}
+
+/// Whether the declared types of two operands are apart.
+pub fn apart(left: Option<KtType>, right: Option<KtType>) -> bool
+    ensures { result ≡ spec.apart (left ∷ right ∷ []) }
+{
+    match (left, right) {
+        (Some(a), Some(b)) => are_apart(a.head, b.head),
+        _ => false,
+    }
+}
+
+/// What an equality is, by whether its operands are apart.
+pub fn equality_claim(apart: bool, span: Span) -> Claim
+    ensures { (n : body.Mark) → n.span ≡ span → result ≡ (spec.equality_demand apart (spec.demand_if true n (spec.Each Way.Plain) spec.boolean) n).claim }
+{
+    if apart {
+        Claim::Breaks(Rule::Equality, span)
+    } else {
+        Claim::Gives(BOOLEAN)
+    }
+}
+
 /// The way of an operator's left operand.
 pub fn left_way(operator: Option<Operator>) -> Way
     ensures { result ≡ spec.left_way operator }
@@ -202,6 +255,33 @@ pub fn assign_claim(word: Span, local: Option<Option<KtType>>) -> Claim
     match local {
         None => Claim::Breaks(Rule::UnknownName, word),
         Some(_) => Claim::Gives(UNIT),
+    }
+}
+
+/// Whether a type is `Unit`.
+pub fn is_unit(t: KtType) -> bool
+    ensures { result ≡ spec.is_unit t }
+{
+    matches!(t.head, Head::Unit) && !t.nullable
+}
+
+fn unit_if(fits: bool, span: Span) -> Claim
+    ensures { (n : body.Mark) → n.span ≡ span → result ≡ spec.unit_if fits n }
+{
+    if fits {
+        Claim::Gives(NOTHING)
+    } else {
+        Claim::Breaks(Rule::Mismatch, span)
+    }
+}
+
+/// What a `return` without a value is in a function with this result.
+pub fn bare_return(gives: Option<KtType>, span: Span) -> Claim
+    ensures { (n : body.Mark) → n.span ≡ span → result ≡ spec.bare_return gives n }
+{
+    match gives {
+        None => Claim::Gives(NOTHING),
+        Some(t) => unit_if(is_unit(t), span),
     }
 }
 

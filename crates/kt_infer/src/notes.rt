@@ -10,8 +10,8 @@ use indexmap::IndexMap;
 use kt_model::class_table::ClassTable;
 use kt_model::finding::{Finding, Rule};
 use kt_model::kinds::KtType;
-use kt_typing::{Claim, Operator, Outcome, TypeRow, Way};
 use kt_tree::{NoMemory, Span};
+use kt_typing::{Claim, Operator, Outcome, TypeRow, Way};
 use sqlite_items::Items;
 use std::alloc::Global;
 

@@ -1,5 +1,5 @@
 //! The pass over statements.
-ghost use Rattle.std.specs.Prelude.{◌≡◌, ℕ, IfOk, map, option_map, Option, Some, None, Bool};
+ghost use Rattle.std.specs.Prelude.{◌≡◌, ℕ, IfOk, map, option_map, Option, Some, None, Bool, false};
 ghost use Rattle.kt_tree.specs.declared.token.Span.{Span};
 ghost use Rattle.kt_model.specs.declared.uses.Named.{Named};
 ghost use Rattle.kt_model.specs.Classes.{outlines, written};
@@ -7,20 +7,20 @@ ghost use Rattle.kt_model.specs.NameUses.{named_at};
 ghost use Rattle.kt_model.specs.BodyTrees.{Mark, Operation, stmt_tree, seen_optional, listed, seen, local_tree, assign_tree, assigned_tree, named_there, compound_of};
 ghost use Rattle.kt_typing.specs.Typing as spec;
 ghost use Rattle.kt_typing.specs.Typing.{Each, judged, all_judged};
-ghost use Rattle.kt_infer.specs.Noting.{Judges, JudgesAll, Opens, typing_of};
+ghost use Rattle.kt_infer.specs.Noting.{Judges, JudgesAll, Opens, OpensAs, by_last, typing_of};
 
 use crate::choices::{
     UNIT, arithmetic_operator, assign_claim, both, claimed, is_text, kept_claim, known_type,
-    left_way, name_claim, right_way, still, sum_operator, type_in, type_or_none, value_way,
+    left_way, name_claim, right_way, sum_operator, type_in, type_or_none, value_way,
 };
 use crate::notes::{Notes, Opened, opened_tree, shut};
 use kt_model::class_table::ClassTable;
 use kt_model::finding::Rule;
 use kt_model::kinds::KtType;
-use kt_typing::{Claim, Operator, Way};
 use kt_model::uses::{Body, Named};
 use kt_tree::ast::{Assignment, Expr, ExprKind, Stmt};
 use kt_tree::{NoMemory, Span};
+use kt_typing::{Claim, Operator, Way};
 
 /// The span of an expression that is a name alone.
 fn name_of(e: &Expr) -> Option<Span>
@@ -74,39 +74,37 @@ fn declaration_claim(
 }
 
 impl Notes {
-    /// Types statements one behind another; whether each has a type.
-    pub fn statements(
-        &mut self,
-        body: &Body<'_>,
-        way: Way,
-        statements: &[Stmt],
-    ) -> Result<bool, NoMemory>
-        ensures { IfOk result (JudgesAll self.old self.new (all_judged (typing_of body.now) (Each way) self.old.locals.entries (listed (map (stmt_tree (named_at body.now.uses.now)) statements.now)))) }
+    /// Types statements one behind another; whether the last has a type.
+    #[cycle(typing)]
+    pub fn statements(&mut self, body: &Body<'_>, statements: &[Stmt]) -> Result<bool, NoMemory>
+        ensures { IfOk result (JudgesAll self.old self.new (by_last (all_judged (typing_of body.now) (Each Way.Unvalued) self.old.locals.entries (listed (map (stmt_tree (named_at body.now.uses.now)) statements.now))))) }
     {
         let mut complete = true;
         for s in statements {
-            let found = self.stmt(body, way, s)?;
-            complete = still(complete, found);
+            let found = self.stmt(body, s)?;
+            complete = found.is_some();
         }
         Ok(complete)
     }
 
-    /// Types a statement in its way.
-    pub fn stmt(&mut self, body: &Body<'_>, way: Way, s: &Stmt) -> Result<Option<KtType>, NoMemory>
-        ensures { IfOk result (Judges self.old self.new (judged (typing_of body.now) way self.old.locals.entries (stmt_tree (named_at body.now.uses.now) s.now))) }
+    /// Types a statement, whose value is not taken.
+    #[cycle(typing)]
+    pub fn stmt(&mut self, body: &Body<'_>, s: &Stmt) -> Result<Option<KtType>, NoMemory>
+        ensures { IfOk result (Judges self.old self.new (judged (typing_of body.now) Way.Unvalued self.old.locals.entries (stmt_tree (named_at body.now.uses.now) s.now))) }
     {
         let statement = self.statement(body, s)?;
-        let found = self.close(body.table, way, &statement)?;
+        let found = self.close(body.table, Way::Unvalued, &statement)?;
         Ok(found)
     }
 
     /// Types the parts of a statement.
+    #[cycle(typing)]
     fn statement(&mut self, body: &Body<'_>, s: &Stmt) -> Result<Opened, NoMemory>
-        ensures { IfOk result (Opens (typing_of body.now) self.old self.new (stmt_tree (named_at body.now.uses.now) s.now)) }
+        ensures { IfOk result (OpensAs (typing_of body.now) false self.old self.new (stmt_tree (named_at body.now.uses.now) s.now)) }
     {
         match s {
             Stmt::Expr(e) => {
-                let expression = self.open(body, e)?;
+                let expression = self.open(body, false, e)?;
                 Ok(expression)
             }
             Stmt::Local {
@@ -137,6 +135,7 @@ impl Notes {
     }
 
     /// Opens the declaration of a local.
+    #[cycle(typing)]
     fn local(
         &mut self,
         body: &Body<'_>,
@@ -171,6 +170,7 @@ impl Notes {
     }
 
     /// Opens an assignment.
+    #[cycle(typing)]
     fn assign(
         &mut self,
         body: &Body<'_>,
@@ -192,6 +192,7 @@ impl Notes {
     }
 
     /// Opens an assignment of a name.
+    #[cycle(typing)]
     fn assign_name(
         &mut self,
         body: &Body<'_>,
@@ -223,6 +224,7 @@ impl Notes {
     }
 
     /// Opens an assignment by `=`.
+    #[cycle(typing)]
     fn plain(
         &mut self,
         body: &Body<'_>,
@@ -263,6 +265,7 @@ impl Notes {
     }
 
     /// Types the written operand of a compound assignment; whether it has a type, or is not written.
+    #[cycle(typing)]
     fn operand(&mut self, body: &Body<'_>, way: Way, value: &Option<Expr>) -> Result<bool, NoMemory>
         ensures { IfOk result (JudgesAll self.old self.new (all_judged (typing_of body.now) (Each way) self.old.locals.entries (seen_optional (option_map (seen (named_at body.now.uses.now)) value.now)))) }
     {
@@ -276,6 +279,7 @@ impl Notes {
     }
 
     /// Opens an assignment that reads its local first.
+    #[cycle(typing)]
     fn compound(
         &mut self,
         body: &Body<'_>,

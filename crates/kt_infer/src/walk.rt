@@ -1,22 +1,27 @@
 //! The pass over expressions. The parts of an expression are typed before its way is known, and in each way alike; so the left operand of a sum is typed
 //! once, though whether it is a text decides how it is checked.
-ghost use Rattle.std.specs.Prelude.{◌≡◌, ◌&&◌, is_some, IfOk, List, [], ◌∷◌, map};
+ghost use Rattle.std.specs.Prelude.{◌≡◌, ◌&&◌, is_some, IfOk, List, [], ◌∷◌, map, option_map, true};
 ghost use Rattle.kt_tree.specs.declared.token.Span.{Span};
 ghost use Rattle.kt_model.specs.NameUses.{named_at};
-ghost use Rattle.kt_model.specs.BodyTrees.{Mark, expr_tree, name_tree, call_tree, seen, seen_trees, piece, inserted_of, named_there, whole};
+ghost use Rattle.kt_model.specs.BodyTrees.{Mark, Return', expr_tree, name_tree, call_tree, branch_trees, otherwise, seen, seen_trees, seen_optional, piece, inserted_of, named_there, whole};
 ghost use Rattle.kt_typing.specs.Typing as spec;
 ghost use Rattle.kt_typing.specs.Typing.{Each, judged, all_judged};
-ghost use Rattle.kt_infer.specs.Noting.{IsOpened, Judges, JudgesAll, Opens, typing_of};
+ghost use Rattle.kt_infer.specs.Demands.{as_ways};
+ghost use Rattle.kt_infer.specs.Noting.{IsOpened, Judges, JudgesAll, Opens, OpensAs, by_last, typing_of};
 
-use crate::calls::{built_in_signature, demanded, function_signature};
-use crate::choices::{INT, arithmetic_operator, both, left_way, name_claim, right_way, still};
+use crate::calls::{Ways, built_in_signature, demanded, function_signature, owner_result};
+use crate::choices::{
+    BOOLEAN, INT, NOTHING, UNIT, apart, arithmetic_operator, bare_return, both, equality_claim,
+    is_valued, left_way, name_claim, right_way, still, value_way,
+};
 use crate::notes::{Notes, Opened, opened_tree, shut};
 use kt_model::finding::Rule;
 use kt_model::kinds::KtType;
-use kt_typing::{Claim, Operator, Way};
 use kt_model::uses::{Body, Named};
-use kt_tree::ast::{Expr, ExprKind, StringPart};
+use kt_tree::ast::{Branch, Expr, ExprKind, StringPart};
 use kt_tree::{NoMemory, Span};
+use kt_typing::{Claim, Operator, Way};
+use sqlite_items::Boxed;
 
 /// What an operator makes of its operands, where it is open.
 fn operator_claim(operator: Option<Operator>, span: Span) -> Claim
@@ -30,28 +35,23 @@ fn operator_claim(operator: Option<Operator>, span: Span) -> Claim
 
 impl Notes {
     /// Types an expression in its way.
+    #[cycle(typing)]
     pub fn expr(&mut self, body: &Body<'_>, way: Way, e: &Expr) -> Result<Option<KtType>, NoMemory>
         ensures { IfOk result (Judges self.old self.new (judged (typing_of body.now) way self.old.locals.entries (expr_tree (named_at body.now.uses.now) e.now))) }
     {
-        let expression = self.open(body, e)?;
+        let expression = self.open(body, is_valued(way), e)?;
         let found = self.close(body.table, way, &expression)?;
         Ok(found)
     }
 
-    /// Types the parts of an expression.
+    /// Types the parts of an expression whose value is taken, or not.
     #[cycle(typing)]
-    pub fn open(&mut self, body: &Body<'_>, e: &Expr) -> Result<Opened, NoMemory>
-        ensures { IfOk result (Opens (typing_of body.now) self.old self.new (expr_tree (named_at body.now.uses.now) e.now)) }
+    pub fn open(&mut self, body: &Body<'_>, valued: bool, e: &Expr) -> Result<Opened, NoMemory>
+        ensures { IfOk result (OpensAs (typing_of body.now) valued self.old self.new (expr_tree (named_at body.now.uses.now) e.now)) }
     {
         match &e.kind {
-            ExprKind::Int(_) => Ok(opened_tree(
-                self.alloc,
-                e.number,
-                e.span,
-                true,
-                Claim::Gives(INT),
-            )),
-            ExprKind::Bool(_) => Ok(shut(self.alloc, e.number, e.span)),
+            ExprKind::Int(_) => Ok(self.literal(e.number, e.span, INT)),
+            ExprKind::Bool(_) => Ok(self.literal(e.number, e.span, BOOLEAN)),
             ExprKind::Null => Ok(shut(self.alloc, e.number, e.span)),
             ExprKind::Name(_) => Ok(self.name(body, e.number, e.span)),
             ExprKind::Template(parts) => {
@@ -60,7 +60,7 @@ impl Notes {
                 Ok(opened_tree(self.alloc, e.number, e.span, complete, claim))
             }
             ExprKind::Paren(a) => {
-                let mut inner = self.open(body, a.get())?;
+                let mut inner = self.open(body, true, a.get())?;
                 inner.parens.push(e.number)?;
                 Ok(inner)
             }
@@ -82,53 +82,107 @@ impl Notes {
                 Some(_) => Ok(shut(self.alloc, e.number, e.span)),
             },
             ExprKind::Sign(_, a) => {
-                let operand = self.open(body, a.get())?;
-                let found = self.close(body.table, Way::Checked(INT), &operand)?;
-                let claim = Claim::Gives(INT);
-                Ok(opened_tree(self.alloc, e.number, e.span, found.is_some(), claim))
+                let found = self.expr(body, Way::Checked(INT), a.get())?;
+                Ok(self.unary(e.number, e.span, found, INT))
             }
             ExprKind::Sum(a, b) => {
-                let first = self.open(body, a.get())?;
+                let first = self.open(body, true, a.get())?;
                 let operator = first.sum_operator(body.table);
                 let left = self.close(body.table, left_way(operator), &first)?;
-                let second = self.open(body, b.get())?;
-                let right = self.close(body.table, right_way(operator), &second)?;
+                let right = self.expr(body, right_way(operator), b.get())?;
                 Ok(self.binary(e.number, e.span, operator, left, right))
             }
             ExprKind::Arithmetic(o, a, b) => {
                 let operator = arithmetic_operator(*o);
-                let first = self.open(body, a.get())?;
-                let left = self.close(body.table, left_way(operator), &first)?;
-                let second = self.open(body, b.get())?;
-                let right = self.close(body.table, right_way(operator), &second)?;
+                let left = self.expr(body, left_way(operator), a.get())?;
+                let right = self.expr(body, right_way(operator), b.get())?;
                 Ok(self.binary(e.number, e.span, operator, left, right))
             }
             ExprKind::Compare(_, a, b) => {
-                let first = self.open(body, a.get())?;
-                let left = self.close(body.table, Way::Inferred, &first)?;
-                let second = self.open(body, b.get())?;
-                let right = self.close(body.table, Way::Inferred, &second)?;
-                Ok(self.binary(e.number, e.span, None, left, right))
+                let left = self.expr(body, Way::Checked(INT), a.get())?;
+                let right = self.expr(body, Way::Checked(INT), b.get())?;
+                Ok(self.pair(e.number, e.span, left, right, Claim::Gives(BOOLEAN)))
             }
             ExprKind::Equal(_, a, b) => {
-                let first = self.open(body, a.get())?;
-                let left = self.close(body.table, Way::Inferred, &first)?;
-                let second = self.open(body, b.get())?;
-                let right = self.close(body.table, Way::Inferred, &second)?;
-                Ok(self.binary(e.number, e.span, None, left, right))
+                let left = self.expr(body, Way::Plain, a.get())?;
+                let right = self.expr(body, Way::Plain, b.get())?;
+                let claim = equality_claim(apart(left, right), e.span);
+                Ok(self.pair(e.number, e.span, left, right, claim))
             }
-            ExprKind::Not(_) => Ok(shut(self.alloc, e.number, e.span)),
-            ExprKind::And(_, _) => Ok(shut(self.alloc, e.number, e.span)),
-            ExprKind::Or(_, _) => Ok(shut(self.alloc, e.number, e.span)),
+            ExprKind::Not(a) => {
+                let found = self.expr(body, Way::Checked(BOOLEAN), a.get())?;
+                Ok(self.unary(e.number, e.span, found, BOOLEAN))
+            }
+            ExprKind::And(a, b) => {
+                let left = self.expr(body, Way::Checked(BOOLEAN), a.get())?;
+                let right = self.expr(body, Way::Checked(BOOLEAN), b.get())?;
+                Ok(self.pair(e.number, e.span, left, right, Claim::Gives(BOOLEAN)))
+            }
+            ExprKind::Or(a, b) => {
+                let left = self.expr(body, Way::Checked(BOOLEAN), a.get())?;
+                let right = self.expr(body, Way::Checked(BOOLEAN), b.get())?;
+                Ok(self.pair(e.number, e.span, left, right, Claim::Gives(BOOLEAN)))
+            }
             ExprKind::If {
-                condition: _,
-                then: _,
-                otherwise: _,
-            } => Ok(shut(self.alloc, e.number, e.span)),
-            ExprKind::Return { label: _, value: _ } => Ok(shut(self.alloc, e.number, e.span)),
+                condition,
+                then,
+                otherwise,
+            } => {
+                if valued {
+                    return Ok(shut(self.alloc, e.number, e.span));
+                }
+                let found = self.expr(body, Way::Checked(BOOLEAN), condition.get())?;
+                let first = self.branch(body, then.get())?;
+                let second = self.otherwise(body, otherwise)?;
+                let complete = both(found.is_some(), both(first, second));
+                let claim = Claim::Gives(UNIT);
+                Ok(opened_tree(self.alloc, e.number, e.span, complete, claim))
+            }
+            ExprKind::Return { label, value } => match label {
+                None => {
+                    let leaving = self.leave(body, e.number, e.span, value)?;
+                    Ok(leaving)
+                }
+                Some(_) => Ok(shut(self.alloc, e.number, e.span)),
+            },
             ExprKind::Throw(_) => Ok(shut(self.alloc, e.number, e.span)),
             _ => Ok(shut(self.alloc, e.number, e.span)),
         }
+    }
+
+    /// Opens a literal of a type.
+    fn literal(&self, number: u32, span: Span, t: KtType) -> Opened
+        ensures { IsOpened result number span true (Claim.Gives t) }
+    {
+        opened_tree(self.alloc, number, span, true, Claim::Gives(t))
+    }
+
+    /// Opens a tree with its one part, which has this type.
+    fn unary(&self, number: u32, span: Span, part: Option<KtType>, gives: KtType) -> Opened
+        ensures { IsOpened result number span (is_some part) (Claim.Gives gives) }
+    {
+        opened_tree(
+            self.alloc,
+            number,
+            span,
+            part.is_some(),
+            Claim::Gives(gives),
+        )
+    }
+
+    /// Opens a tree with its two parts, which have these types.
+    fn pair(
+        &self,
+        number: u32,
+        span: Span,
+        left: Option<KtType>,
+        right: Option<KtType>,
+        claim: Claim,
+    ) -> Opened
+        ensures { IsOpened result number span (is_some left && is_some right) claim }
+    {
+        let complete = both(left.is_some(), right.is_some());
+        opened_tree(self.alloc, number, span, complete, claim)
     }
 
     /// Opens an operator with its two operands, which have these types.
@@ -143,8 +197,7 @@ impl Notes {
         ensures { (n : Mark) → n.number ≡ number → n.span ≡ span → IsOpened result n.number n.span (is_some left && is_some right) (spec.operator_demand operator n 2).claim }
     {
         let claim = operator_claim(operator, span);
-        let complete = left.is_some() && right.is_some();
-        opened_tree(self.alloc, number, span, complete, claim)
+        self.pair(number, span, left, right, claim)
     }
 
     /// Opens a name that stands alone.
@@ -160,15 +213,20 @@ impl Notes {
         }
     }
 
-    /// Types arguments in one way; whether each has a type.
+    /// Types arguments in their ways; whether each has a type.
     #[cycle(typing)]
-    fn arguments(&mut self, body: &Body<'_>, way: Way, arguments: &[Expr]) -> Result<bool, NoMemory>
-        ensures { IfOk result (JudgesAll self.old self.new (all_judged (typing_of body.now) (Each way) self.old.locals.entries (seen_trees (map (seen (named_at body.now.uses.now)) arguments.now)))) }
+    fn arguments(
+        &mut self,
+        body: &Body<'_>,
+        ways: Ways,
+        arguments: &[Expr],
+    ) -> Result<bool, NoMemory>
+        ensures { IfOk result (JudgesAll self.old self.new (all_judged (typing_of body.now) (as_ways body.now.uses.now ways) self.old.locals.entries (seen_trees (map (seen (named_at body.now.uses.now)) arguments.now)))) }
     {
         let mut complete = true;
-        for e in arguments {
-            let argument = self.open(body, e)?;
-            let found = self.close(body.table, way, &argument)?;
+        for (place, e) in arguments.iter().enumerate() {
+            let way = ways.at(body.uses, place);
+            let found = self.expr(body, way, e)?;
             complete = still(complete, found);
         }
         Ok(complete)
@@ -190,13 +248,13 @@ impl Notes {
             Named::Function(f, _) => {
                 let signature = function_signature(body.uses, f);
                 let demand = demanded(signature, span, word, arguments.len());
-                let complete = self.arguments(body, demand.way, arguments)?;
+                let complete = self.arguments(body, demand.ways, arguments)?;
                 Ok(opened_tree(self.alloc, number, span, complete, demand.claim))
             }
             Named::BuiltIn(name, _) => {
                 let signature = built_in_signature(name);
                 let demand = demanded(signature, span, word, arguments.len());
-                let complete = self.arguments(body, demand.way, arguments)?;
+                let complete = self.arguments(body, demand.ways, arguments)?;
                 Ok(opened_tree(self.alloc, number, span, complete, demand.claim))
             }
             _ => Ok(shut(self.alloc, number, span)),
@@ -224,10 +282,68 @@ impl Notes {
         match part {
             StringPart::Text(_) => Ok(true),
             StringPart::Inserted(e) => {
-                let inner = self.open(body, e)?;
-                let found = self.close(body.table, Way::Inferred, &inner)?;
+                let found = self.expr(body, Way::Inferred, e)?;
                 Ok(found.is_some())
             }
+        }
+    }
+
+    /// Opens a `return` of the function under way.
+    #[cycle(typing)]
+    fn leave(
+        &mut self,
+        body: &Body<'_>,
+        number: u32,
+        span: Span,
+        value: &Option<Boxed<Expr>>,
+    ) -> Result<Opened, NoMemory>
+        ensures { IfOk result (Opens (typing_of body.now) self.old self.new (Return' (whole number span) (seen_optional (option_map (seen (named_at body.now.uses.now)) value.now)))) }
+    {
+        let gives = owner_result(body.uses, body.owner);
+        match value {
+            None => {
+                let claim = bare_return(gives, span);
+                Ok(opened_tree(self.alloc, number, span, true, claim))
+            }
+            Some(e) => {
+                let found = self.expr(body, value_way(gives), e.get())?;
+                Ok(self.unary(number, span, found, NOTHING))
+            }
+        }
+    }
+
+    /// Types the statements of a branch; whether the last of them has a type.
+    #[cycle(typing)]
+    fn branch(&mut self, body: &Body<'_>, branch: &Branch) -> Result<bool, NoMemory>
+        ensures { IfOk result (JudgesAll self.old self.new (by_last (all_judged (typing_of body.now) (Each Way.Unvalued) self.old.locals.entries (branch_trees (named_at body.now.uses.now) branch.now)))) }
+    {
+        match branch {
+            Branch::Braced(block) => {
+                let typed = self.statements(body, block.statements.as_slice())?;
+                Ok(typed)
+            }
+            Branch::Single(s) => {
+                let found = self.stmt(body, s)?;
+                Ok(found.is_some())
+            }
+        }
+    }
+
+    /// Types what stands behind `else`, if anything does; whether the last statement has a type.
+    #[cycle(typing)]
+    fn otherwise(
+        &mut self,
+        body: &Body<'_>,
+        branch: &Option<Boxed<Branch>>,
+    ) -> Result<bool, NoMemory>
+        ensures { IfOk result (JudgesAll self.old self.new (by_last (all_judged (typing_of body.now) (Each Way.Unvalued) self.old.locals.entries (otherwise (option_map (branch_trees (named_at body.now.uses.now)) branch.now))))) }
+    {
+        match branch {
+            Some(branch) => {
+                let typed = self.branch(body, branch.get())?;
+                Ok(typed)
+            }
+            None => Ok(true),
         }
     }
 }

@@ -1,4 +1,4 @@
-use Rattle.std.proofs.Common.{refl, sym, ap, ◌∙◌, nat_eq, None}
+use Rattle.std.proofs.Common.{refl, sym, ap, ◌∙◌, nat_eq}
 use Rattle.indexmap.proofs.CallerLemmas.{insert_entry-new}
 use Rattle.kt_typing.specs.Typing.{bound_unless}
 use Rattle.kt_infer.proofs.notes.Notes.bind.Goals as goal

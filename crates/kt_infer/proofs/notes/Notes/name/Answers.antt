@@ -2,7 +2,8 @@ use Rattle.std.proofs.Common.{sym, ap, ◌∙◌}
 use Rattle.kt_typing.specs.Typing.{name_claim}
 use Rattle.kt_model.specs.BodyTrees.{name_tree, whole}
 use Rattle.kt_infer.specs.Noting.{typing_of}
-use Rattle.kt_infer.proofs.Passing.{same_tree, opens_name, opens_shut}
+use Rattle.kt_infer.proofs.Passing.{same_tree}
+use Rattle.kt_infer.proofs.Forms.{opens_name, opens_shut}
 use Rattle.kt_infer.proofs.OtherNames.{no_name}
 use Rattle.kt_infer.proofs.notes.Notes.name.Goals as goal
 
