@@ -1,5 +1,6 @@
-//! The pass over expressions. The parts of an expression are typed before its way is known, and in each way alike; so the left operand of a sum is typed
-//! once, though whether it is a text decides how it is checked.
+//! The pass over expressions. The parts of an expression are typed before its way is known, alike in each way in which its value is taken; so the left
+//! operand of a sum is typed once, though whether it is a text decides how it is checked. Where the value is not taken, an `if` alone differs: only there
+//! it is open.
 ghost use Rattle.std.specs.Prelude.{◌≡◌, ◌&&◌, is_some, IfOk, List, [], ◌∷◌, map, option_map, true};
 ghost use Rattle.kt_tree.specs.declared.token.Span.{Span};
 ghost use Rattle.kt_model.specs.NameUses.{named_at};
