@@ -5,7 +5,6 @@ use crate::case_file::{BodyForm, file_of};
 use crate::listing::{LocalNames, write_nodes, write_places, write_sizes};
 use crate::measure::size_of;
 use crate::shapes::shape_of;
-use crate::sources::source_findings;
 use anyhow::{Result, anyhow};
 use kt_decl::classes;
 use kt_flow::flow;
@@ -38,7 +37,6 @@ pub fn answer(alloc: Global, line: &str) -> Result<String> {
         Some(("graph", rest)) => of_body(alloc, Question::Nodes, rest),
         Some(("paths", rest)) => of_body(alloc, Question::Places, rest),
         Some(("size", rest)) => of_shape(alloc, rest),
-        Some(("text", rest)) => source_findings(alloc, rest),
         _ => Err(anyhow!("no such question")),
     }
 }

@@ -3,8 +3,7 @@
 //! It stands on `kt_graph`, `kt_init` and `kt_flow`; nothing stands above it. An empty line of its input, and one that begins with `#`, is printed as it is;
 //! each other line is printed with its answer. `graph PARAMETERS : TREES` asks for the graph of the body of a function, a node a line; `paths PARAMETERS : TREES`
 //! for the statuses alone, in one line; with `->` for `:` the body is one expression. `size SHAPE COUNT` asks for the size of a made body, and for the limits
-//! that it passes; `text SOURCE` for what is violated along the paths of a source, in which `\n` is a line end. How trees are written stands in `words` and
-//! `forms`. With the words SHAPE COUNT it prints the size of a made body and what is found there; with a third word it only makes the body.
+//! that it passes. How trees are written stands in `words` and `forms`. With the words SHAPE COUNT it prints the size of a made body and what is found there; with a third word it only makes the body.
 #![tactic(auto)]
 
 mod answers;
@@ -15,7 +14,6 @@ mod made;
 mod measure;
 mod reader;
 mod shapes;
-mod sources;
 mod words;
 
 use anyhow::Result;

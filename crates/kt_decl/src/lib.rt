@@ -14,8 +14,6 @@ mod settle;
 mod sites;
 mod supertypes;
 mod table;
-#[cfg(test)]
-mod tests;
 mod words;
 
 pub use inheritance::{implementation, is_sub, member};
