@@ -6,7 +6,7 @@ use Rattle.kt_tree.specs.declared.ast.declaration.File.{File}
 use Rattle.kt_model.specs.Bodies.{owner_parameters, owner_trees, IsTooLarge}
 use Rattle.kt_model.specs.ControlFlow.{body_nodes}
 use Rattle.kt_model.specs.Findings.{AreFindings}
-use Rattle.kt_model.specs.FlowRules.{IsSizeViolated, too_large, SettlesEntered}
+use Rattle.kt_paths.specs.FlowRules.{IsSizeViolated, too_large, SettlesEntered}
 use Rattle.kt_model.specs.NameUses.{Resolved}
 use Rattle.kt_model.specs.declared.finding.Finding.{Finding}
 use Rattle.kt_model.specs.declared.uses.Owner.TheVariants as owner

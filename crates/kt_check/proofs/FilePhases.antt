@@ -6,13 +6,13 @@ use Rattle.kt_tree.specs.declared.ast.declaration.File.{File}
 use Rattle.kt_model.specs.Classes.{Outline, Outlines, outline, outlines}
 use Rattle.kt_model.specs.DeclarationRules as declarations
 use Rattle.kt_model.specs.Findings.{IsFault}
-use Rattle.kt_model.specs.FlowRules.{IsSizeViolated}
+use Rattle.kt_paths.specs.FlowRules.{IsSizeViolated}
 use Rattle.kt_model.specs.MemberRules.{IsMisdeclared}
 use Rattle.kt_model.specs.NameRules.{IsNameViolated}
 use Rattle.kt_model.specs.NameUses.{Resolved}
 use Rattle.kt_model.specs.Outlines.{outlines_of}
 use Rattle.kt_model.specs.Scopes.{IsResolved}
-use Rattle.kt_model.specs.ShapeRules.{IsShapeViolated}
+use Rattle.kt_shape.specs.ShapeRules.{IsShapeViolated}
 use Rattle.kt_model.specs.declared.class_table.ClassRow.{ClassRow}
 use Rattle.kt_model.specs.declared.finding.Finding.{Finding}
 use Rattle.kt_model.specs.declared.finding.PhaseFault.{PhaseFault}

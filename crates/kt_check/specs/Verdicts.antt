@@ -2,7 +2,7 @@
 use Rattle.std.specs.Prelude.{◌≡◌, ℕ, ◌<◌, List, length, Some}
 use Rattle.kt_tree.specs.declared.ast.declaration.File.{File}
 use Rattle.kt_model.specs.Bodies.{owner_parameters, owner_trees}
-use Rattle.kt_model.specs.FlowRules.{SettlesEntered}
+use Rattle.kt_paths.specs.FlowRules.{SettlesEntered}
 use Rattle.kt_model.specs.NameUses.{Resolved}
 use Rattle.kt_model.specs.declared.uses.Owner.TheVariants as owner
 use Rattle.kt_mean.specs.Programs.{main_of}

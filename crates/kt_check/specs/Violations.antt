@@ -9,13 +9,13 @@ use Rattle.kt_tree.specs.declared.ast.declaration.File.{File}
 use Rattle.kt_source.specs.SourceRules.{HasFile, IsSourceViolated}
 use Rattle.kt_model.specs.Bodies.{owner_parameters, owner_trees}
 use Rattle.kt_model.specs.DeclarationRules as declarations
-use Rattle.kt_model.specs.FlowRules.{IsSizeViolated, IsFlowViolated}
+use Rattle.kt_paths.specs.FlowRules.{IsSizeViolated, IsFlowViolated}
 use Rattle.kt_model.specs.MemberRules.{IsMisdeclared}
 use Rattle.kt_model.specs.NameRules.{IsNameViolated}
 use Rattle.kt_model.specs.NameUses.{Resolved}
 use Rattle.kt_model.specs.Order.{by_place}
 use Rattle.kt_model.specs.Scopes.{IsResolved}
-use Rattle.kt_model.specs.ShapeRules.{IsShapeViolated}
+use Rattle.kt_shape.specs.ShapeRules.{IsShapeViolated}
 use Rattle.kt_typing.specs.Typing.{IsTypingFinding}
 use Rattle.kt_model.specs.declared.finding.Finding.{Finding}
 use Rattle.kt_model.specs.declared.uses.Owner.TheVariants as owner

@@ -5,7 +5,7 @@ ghost use Rattle.kt_model.specs.Bodies.{IsTooLarge, owner_parameters, owner_tree
 ghost use Rattle.kt_model.specs.Classes.{outlines};
 ghost use Rattle.kt_model.specs.ControlFlow.{body_nodes};
 ghost use Rattle.kt_model.specs.Findings.{AreFindings, IsFault};
-ghost use Rattle.kt_model.specs.FlowRules.{IsSizeViolated, SettlesEntered};
+ghost use Rattle.kt_paths.specs.FlowRules.{IsSizeViolated, SettlesEntered};
 ghost use Rattle.kt_model.specs.Outlines.{outlines_of};
 ghost use Rattle.kt_model.specs.declared.uses.Owner.TheVariants as owner;
 ghost use Rattle.kt_check.specs.Phases.{AddsBody, AreBefore, IsViolatedBefore};

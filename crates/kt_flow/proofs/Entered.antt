@@ -7,7 +7,7 @@ use Rattle.kt_model.specs.declared.graph.Tag.TheVariants as tag
 use Rattle.kt_model.specs.BodyTrees.{Trees}
 use Rattle.kt_model.specs.Bodies.{node_at}
 use Rattle.kt_model.specs.ControlFlow.{Node, body_edges}
-use Rattle.kt_model.specs.FlowRules.{IsEntered, IsReachedNode, SettlesEntered}
+use Rattle.kt_paths.specs.FlowRules.{IsEntered, IsReachedNode, SettlesEntered}
 use Rattle.kt_init.specs.Statuses.{Analyses, Statuses, reached_at}
 use Rattle.kt_flow.proofs.Paths.{IsPlaced, reached_here, reached_place, reached_there}
 

@@ -7,7 +7,7 @@ use Rattle.std.proofs.lemmas.List.Sums.{sum_by-append}
 use Rattle.kt_model.specs.BodyTrees.{Mark, Tree, Trees, Operation', Name', Paren', Not', And', Or', If', Declare', Local', Assign', Compound', Call', Return', Throw', Shut', Empty', First'}
 use Rattle.kt_model.specs.ControlFlow.{Node, nodes, all_nodes, leave_nodes, in_of, out_of, in_effects, out_effects, assume, bring, end_node}
 use Rattle.kt_model.specs.Bodies.{declared_by, variables_of}
-use Rattle.kt_model.specs.FlowRules.{locals_of, most_locals}
+use Rattle.kt_paths.specs.FlowRules.{locals_of, most_locals}
 use Rattle.kt_model.specs.TreesWithin.{trees_in, all_trees_in}
 use Rattle.kt_flow.specs.Notes.{note, declares_local, trees_notes}
 

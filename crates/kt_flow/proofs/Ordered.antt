@@ -8,7 +8,7 @@ use Rattle.std.proofs.lemmas.List.{get_or-map, length-map}
 use Rattle.kt_model.specs.BodyTrees.{Tree, Trees, number}
 use Rattle.kt_model.specs.Bodies.{IsGraphOf}
 use Rattle.kt_model.specs.Findings.{AreFindings}
-use Rattle.kt_model.specs.FlowRules.{IsFlowViolated, SettlesEntered}
+use Rattle.kt_paths.specs.FlowRules.{IsFlowViolated, SettlesEntered}
 use Rattle.kt_model.specs.NodePaths.{IsEdgeWithin}
 use Rattle.kt_model.specs.TreesWithin.{all_trees_in}
 use Rattle.kt_model.specs.declared.finding.Finding.{Finding}

@@ -10,7 +10,7 @@ use Rattle.kt_model.specs.BodyPaths.{IsNodePath}
 use Rattle.kt_model.specs.BodyTrees.{Trees}
 use Rattle.kt_model.specs.Bodies.{IsGraphOf, edge_at, edges_at, node_at}
 use Rattle.kt_model.specs.ControlFlow.{Node, Edge, body_edges, entry_node}
-use Rattle.kt_model.specs.FlowRules.{IsOnAll, IsReachedNode, assigned_on}
+use Rattle.kt_paths.specs.FlowRules.{IsOnAll, IsReachedNode, assigned_on}
 use Rattle.kt_model.specs.NodeKeys.{AreDistinct, AreNumbered, hits, occurs, tag_number}
 use Rattle.kt_model.specs.NodePaths.{HasEdge, IsAlongAll, IsEdgeWithin, IsPath, IsReached, assigned_after, assigned_along, effects_of, entry_of}
 use Rattle.kt_model.proofs.NodeKeyLaws.{distinct_nodes, here}

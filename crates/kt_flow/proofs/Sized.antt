@@ -8,7 +8,7 @@ use Rattle.kt_tree.specs.declared.ast.declaration.File.{File}
 use Rattle.kt_tree.specs.declared.ast.declaration.FunctionDecl.{FunctionDecl}
 use Rattle.kt_model.specs.NameUses.{Resolved}
 use Rattle.kt_model.specs.Bodies.{IsTooLarge}
-use Rattle.kt_model.specs.FlowRules.{most_locals, IsSizeViolated, too_many, too_large}
+use Rattle.kt_paths.specs.FlowRules.{most_locals, IsSizeViolated, too_many, too_large}
 use Rattle.kt_model.specs.Findings.{Adds}
 use Rattle.kt_model.specs.declared.uses.Owner.TheVariants as owner
 use Rattle.kt_model.specs.declared.finding.Finding.{Finding}

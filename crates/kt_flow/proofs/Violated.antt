@@ -5,7 +5,7 @@ use Rattle.std.proofs.lemmas.List.Elements.{Contains-get_or}
 use Rattle.kt_model.specs.BodyTrees.{Tree, Trees, number}
 use Rattle.kt_model.specs.ControlFlow.{Node, body_edges, reads, assigns}
 use Rattle.kt_model.specs.Bodies.{node_at}
-use Rattle.kt_model.specs.FlowRules.{IsFlowViolated, unassigned, val_twice, IsReachedNode, IsOnAll}
+use Rattle.kt_paths.specs.FlowRules.{IsFlowViolated, unassigned, val_twice, IsReachedNode, IsOnAll}
 use Rattle.kt_model.specs.NodePaths.{IsAlongAll, effects_of}
 use Rattle.kt_model.specs.TreesWithin.{all_trees_in, read_by, fixed_by, word_of}
 use Rattle.kt_model.specs.declared.finding.Finding.{Finding}

@@ -6,7 +6,7 @@ use Rattle.kt_tree.specs.declared.ast.declaration.FunctionDecl.{FunctionDecl}
 use Rattle.kt_model.specs.NameUses.{Resolved}
 use Rattle.kt_model.specs.Bodies.{owner_trees, owner_parameters, IsTooLarge}
 use Rattle.kt_model.specs.ControlFlow.{body_nodes}
-use Rattle.kt_model.specs.FlowRules.{most_locals, locals_of}
+use Rattle.kt_paths.specs.FlowRules.{most_locals, locals_of}
 use Rattle.kt_model.specs.declared.uses.Owner.{Owner}
 use Rattle.kt_model.specs.declared.uses.Owner.TheVariants as owner
 use Rattle.kt_model.specs.declared.finding.Finding.{Finding}

@@ -1,7 +1,7 @@
 //! The limits on the graphs of a file's bodies.
 ghost use Rattle.std.specs.Prelude.{◌≡◌, ◌<◌, ◌↔◌, ◌++◌, [], length, count_by, IfOk, IfErr, IsTrue, OnOk};
 ghost use Rattle.kt_model.specs.Bodies.{owner_parameters};
-ghost use Rattle.kt_model.specs.FlowRules.{most_locals, IsSizeViolated};
+ghost use Rattle.kt_paths.specs.FlowRules.{most_locals, IsSizeViolated};
 ghost use Rattle.kt_model.specs.Findings.{Adds, AreFindings, IsFault};
 ghost use Rattle.kt_model.specs.declared.finding.Finding.{Finding};
 ghost use Rattle.kt_flow.specs.Sizes.{finding_if, owner_locals, owner_nodes, IsPassed, IsPassedBefore};

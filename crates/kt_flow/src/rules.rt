@@ -3,7 +3,7 @@ ghost use Rattle.std.specs.Prelude.{◌≡◌, ◌↔◌, [], length, IfOk, IsTr
 ghost use Rattle.kt_model.specs.Bodies.{owner_parameters, owner_trees, IsTooLarge};
 ghost use Rattle.kt_model.specs.ControlFlow.{body_nodes};
 ghost use Rattle.kt_model.specs.Findings.{AreFindings};
-ghost use Rattle.kt_model.specs.FlowRules.{IsFlowViolated, SettlesEntered};
+ghost use Rattle.kt_paths.specs.FlowRules.{IsFlowViolated, SettlesEntered};
 ghost use Rattle.kt_init.specs.Statuses.{Analyses};
 ghost use Rattle.kt_flow.specs.Notes.{RiseFromZero, AreRising};
 ghost use Rattle.kt_flow.specs.Against.{IsAgainstBefore};

@@ -3,10 +3,10 @@ use Rattle.std.proofs.Common.{◌≡◌, ◌==◌, ℕ, List, [], ◌∷◌, con
 use Rattle.std.specs.Cmp.Lexicographic.{pointwise}
 use Rattle.kt_model.specs.Codes.{code_of}
 use Rattle.kt_model.specs.declared.finding.Rule.{Rule}
-use Rattle.kt_model.specs.declared.finding.Rule.TheVariants.{SourceTooLong, Syntax, UnknownName, DuplicateLocal, Unassigned, ValTwice, Duplicate, UnknownType, Supertype, SupertypeCycle, NoMain, Modifier, Body, NoType, ReservedMember, Override, Conflict, AbstractMember, NotUtf8, BadToken, TooDeep, NotAValue, NotAFunction, AssignTarget, Mismatch, ArgumentCount, Equality, TooManyLocals, FlowTooLarge}
+use Rattle.kt_model.specs.declared.finding.Rule.TheVariants.{SourceTooLong, Syntax, UnknownName, DuplicateLocal, Unassigned, ValTwice, Duplicate, UnknownType, Supertype, SupertypeCycle, NoMain, Modifier, Body, NoType, ReservedMember, Override, Conflict, AbstractMember, NotUtf8, BadToken, TooDeep, NotAValue, NotAFunction, AssignTarget, Mismatch, ArgumentCount, Equality, TooManyLocals, FlowTooLarge, NoElse, ValueExpected, NoReturn}
 
 every_rule : List Rule
-every_rule = SourceTooLong ∷ Syntax ∷ UnknownName ∷ DuplicateLocal ∷ Unassigned ∷ ValTwice ∷ Duplicate ∷ UnknownType ∷ Supertype ∷ SupertypeCycle ∷ NoMain ∷ Modifier ∷ Body ∷ NoType ∷ ReservedMember ∷ Override ∷ Conflict ∷ AbstractMember ∷ NotUtf8 ∷ BadToken ∷ TooDeep ∷ NotAValue ∷ NotAFunction ∷ AssignTarget ∷ Mismatch ∷ ArgumentCount ∷ Equality ∷ TooManyLocals ∷ FlowTooLarge ∷ []
+every_rule = SourceTooLong ∷ Syntax ∷ UnknownName ∷ DuplicateLocal ∷ Unassigned ∷ ValTwice ∷ Duplicate ∷ UnknownType ∷ Supertype ∷ SupertypeCycle ∷ NoMain ∷ Modifier ∷ Body ∷ NoType ∷ ReservedMember ∷ Override ∷ Conflict ∷ AbstractMember ∷ NotUtf8 ∷ BadToken ∷ TooDeep ∷ NotAValue ∷ NotAFunction ∷ AssignTarget ∷ Mismatch ∷ ArgumentCount ∷ Equality ∷ TooManyLocals ∷ FlowTooLarge ∷ NoElse ∷ ValueExpected ∷ NoReturn ∷ []
 
 -- the rule of a code
 rule_of : List ℕ → List Rule → Rule
@@ -44,6 +44,9 @@ rule_of-code ArgumentCount = refl
 rule_of-code Equality = refl
 rule_of-code TooManyLocals = refl
 rule_of-code FlowTooLarge = refl
+rule_of-code NoElse = refl
+rule_of-code ValueExpected = refl
+rule_of-code NoReturn = refl
 
 -- Two rules with one code are one.
 pub code_of-injective : (r s : Rule) → code_of r ≡ code_of s → r ≡ s

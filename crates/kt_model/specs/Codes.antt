@@ -1,7 +1,7 @@
 -- The codes and the texts of the rules. They are this project's own.
 use Rattle.std.specs.Prelude.{ℕ, List, codes}
 use Rattle.kt_model.specs.declared.finding.Rule.{Rule}
-use Rattle.kt_model.specs.declared.finding.Rule.TheVariants.{SourceTooLong, Syntax, UnknownName, DuplicateLocal, Unassigned, ValTwice, Duplicate, UnknownType, Supertype, SupertypeCycle, NoMain, Modifier, Body, NoType, ReservedMember, Override, Conflict, AbstractMember, NotUtf8, BadToken, TooDeep, NotAValue, NotAFunction, AssignTarget, Mismatch, ArgumentCount, Equality, TooManyLocals, FlowTooLarge}
+use Rattle.kt_model.specs.declared.finding.Rule.TheVariants.{SourceTooLong, Syntax, UnknownName, DuplicateLocal, Unassigned, ValTwice, Duplicate, UnknownType, Supertype, SupertypeCycle, NoMain, Modifier, Body, NoType, ReservedMember, Override, Conflict, AbstractMember, NotUtf8, BadToken, TooDeep, NotAValue, NotAFunction, AssignTarget, Mismatch, ArgumentCount, Equality, TooManyLocals, FlowTooLarge, NoElse, ValueExpected, NoReturn}
 
 abbrev pub code_of : Rule → List ℕ
 code_of SourceTooLong = codes "SOURCE_TOO_LONG"
@@ -33,6 +33,9 @@ code_of ArgumentCount = codes "ARGUMENT_COUNT"
 code_of Equality = codes "EQUALITY"
 code_of TooManyLocals = codes "TOO_MANY_LOCALS"
 code_of FlowTooLarge = codes "FLOW_TOO_LARGE"
+code_of NoElse = codes "NO_ELSE"
+code_of ValueExpected = codes "VALUE_EXPECTED"
+code_of NoReturn = codes "NO_RETURN"
 
 abbrev pub text_of : Rule → List ℕ
 text_of SourceTooLong = codes "source is too long"
@@ -64,3 +67,6 @@ text_of ArgumentCount = codes "wrong number of arguments"
 text_of Equality = codes "values cannot be equal"
 text_of TooManyLocals = codes "too many variables"
 text_of FlowTooLarge = codes "body is too large"
+text_of NoElse = codes "else is missing"
+text_of ValueExpected = codes "value expected"
+text_of NoReturn = codes "end is reached without a value"

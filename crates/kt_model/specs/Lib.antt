@@ -23,9 +23,5 @@ pub mod BuiltIns
 pub mod NameEvents
 pub mod Scopes
 pub mod NameRules
-pub mod TreeWalks
-pub mod TreeNumbers
-pub mod ShapeRules
 pub mod BodyPaths
 pub mod TreesWithin
-pub mod FlowRules

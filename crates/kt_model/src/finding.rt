@@ -73,6 +73,12 @@ pub enum Rule {
     TooManyLocals,
     /// The graph of a body is larger than is allowed.
     FlowTooLarge,
+    /// An `if` whose value is taken has no `else`.
+    NoElse,
+    /// A branch without braces whose value is taken is an assignment or a loop.
+    ValueExpected,
+    /// The end of a body that must give a value is reached.
+    NoReturn,
 }
 
 impl Rule {
@@ -110,6 +116,9 @@ impl Rule {
             Rule::Equality => "EQUALITY",
             Rule::TooManyLocals => "TOO_MANY_LOCALS",
             Rule::FlowTooLarge => "FLOW_TOO_LARGE",
+            Rule::NoElse => "NO_ELSE",
+            Rule::ValueExpected => "VALUE_EXPECTED",
+            Rule::NoReturn => "NO_RETURN",
         }
     }
 
@@ -147,6 +156,9 @@ impl Rule {
             Rule::Equality => "values cannot be equal",
             Rule::TooManyLocals => "too many variables",
             Rule::FlowTooLarge => "body is too large",
+            Rule::NoElse => "else is missing",
+            Rule::ValueExpected => "value expected",
+            Rule::NoReturn => "end is reached without a value",
         }
     }
 }

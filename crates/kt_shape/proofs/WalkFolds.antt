@@ -30,7 +30,7 @@ use Rattle.kt_tree.specs.declared.ast.body.StringPart.TheVariants as p
 use Rattle.kt_tree.specs.declared.ast.body.Branch.TheOpen.{Branch-F, Condition-F, ExprKind-F, Stmt-F, StringPart-F}
 use Rattle.kt_tree.specs.declared.ast.body.Branch.TheViews as v
 use Rattle.kt_tree.specs.declared.ast.body.Branch.TheFolds.{fold_out-Block, fold_out-Catch, fold_out-Lambda, fold_out-WhenBranch, fold-roll-Expr, fold-roll-Subject, fold-roll-WhenBranch, fold-roll-ExprKind, fold-roll-Stmt, fold-roll-Branch, fold-roll-Condition, fold-roll-StringPart}
-use Rattle.kt_model.specs.TreeWalks.{Parts, Parted, inner, wholes, whole_if, given_if, joined, joined_if, is_dot, left_parts, branch_step, condition_step, kind_step, stmt_step, piece_step, block_step, catch_step, expr_step, lambda_step, subject_step, when_branch_step, expr_parts, kind_parts, stmt_gives, block_gives, branch_gives, piece_gives, condition_gives, catch_gives, lambda_gives, subject_gives, when_branch_gives, expr_gives}
+use Rattle.kt_shape.specs.TreeWalks.{Parts, Parted, inner, wholes, whole_if, given_if, joined, joined_if, is_dot, left_parts, branch_step, condition_step, kind_step, stmt_step, piece_step, block_step, catch_step, expr_step, lambda_step, subject_step, when_branch_step, expr_parts, kind_parts, stmt_gives, block_gives, branch_gives, piece_gives, condition_gives, catch_gives, lambda_gives, subject_gives, when_branch_gives, expr_gives}
 
 joined_map : {A B : Type 0} (f : B → List A) (xs : List B) → joined (map f xs) ≡ flat_map f xs
 joined_map f [] = refl

@@ -2,8 +2,8 @@
 ghost use Rattle.std.specs.Prelude.{◌≡◌, ◌++◌, OnOk};
 ghost use Rattle.std.specs.List.{flat_map};
 ghost use Rattle.kt_model.specs.Sites as sites;
-ghost use Rattle.kt_model.specs.ShapeRules.{no_finding, assign_target};
-ghost use Rattle.kt_model.specs.TreeWalks.{expr_gives, effect_kind_gives, effect_gives, contract_gives, body_gives, value_gives, values_give, getter_gives, member_gives, class_gives, function_gives};
+ghost use Rattle.kt_shape.specs.ShapeRules.{no_finding, assign_target};
+ghost use Rattle.kt_shape.specs.TreeWalks.{expr_gives, effect_kind_gives, effect_gives, contract_gives, body_gives, value_gives, values_give, getter_gives, member_gives, class_gives, function_gives};
 
 use crate::left_sides::{in_block, in_expr};
 use kt_model::finding::Finding;

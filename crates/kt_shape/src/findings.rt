@@ -2,7 +2,7 @@
 ghost use Rattle.std.specs.Prelude.{◌≡◌, IfOk, IfErr};
 ghost use Rattle.kt_model.specs.declared.finding.Finding.{Finding};
 ghost use Rattle.kt_model.specs.Findings.{AreFindings, IsFault};
-ghost use Rattle.kt_model.specs.ShapeRules.{shape_findings, IsShapeViolated};
+ghost use Rattle.kt_shape.specs.ShapeRules.{shape_findings, IsShapeViolated};
 
 use crate::declarations::{in_classes, in_functions};
 use kt_model::finding::{Finding, Findings, PhaseFault, in_order};

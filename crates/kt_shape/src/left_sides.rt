@@ -1,8 +1,8 @@
 //! The walk over all trees of a file that looks at left sides.
 ghost use Rattle.std.specs.Prelude.{◌≡◌, ◌++◌, Bool, OnOk, option_map};
 ghost use Rattle.std.specs.List.{flat_map};
-ghost use Rattle.kt_model.specs.ShapeRules.{no_finding, assign_target};
-ghost use Rattle.kt_model.specs.TreeWalks.{kind_parts, expr_parts, expr_gives, stmt_gives, block_gives, branch_gives, piece_gives, condition_gives, catch_gives, lambda_gives, subject_gives, when_branch_gives, given_if, left_parts};
+ghost use Rattle.kt_shape.specs.ShapeRules.{no_finding, assign_target};
+ghost use Rattle.kt_shape.specs.TreeWalks.{kind_parts, expr_parts, expr_gives, stmt_gives, block_gives, branch_gives, piece_gives, condition_gives, catch_gives, lambda_gives, subject_gives, when_branch_gives, given_if, left_parts};
 
 use crate::targets::is_target;
 use kt_model::finding::{Finding, Rule};

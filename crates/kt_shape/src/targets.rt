@@ -1,7 +1,7 @@
 //! Which expressions may stand on a left side.
 ghost use Rattle.std.specs.Prelude.{◌≡◌};
-ghost use Rattle.kt_model.specs.ShapeRules.{no_finding, assign_target};
-ghost use Rattle.kt_model.specs.TreeWalks.{kind_parts};
+ghost use Rattle.kt_shape.specs.ShapeRules.{no_finding, assign_target};
+ghost use Rattle.kt_shape.specs.TreeWalks.{kind_parts};
 
 use kt_tree::ast::{Access, ExprKind};
 

@@ -4,7 +4,7 @@ use Rattle.std.proofs.lemmas.Bool.{false≢true}
 use Rattle.kt_tree.specs.declared.ast.declaration.File.{File}
 use Rattle.kt_model.specs.BodyTrees.{Trees}
 use Rattle.kt_model.specs.ControlFlow.{body_edges}
-use Rattle.kt_model.specs.FlowRules.{assigned_on, IsFlowViolated, unassigned, val_twice}
+use Rattle.kt_paths.specs.FlowRules.{assigned_on, IsFlowViolated, unassigned, val_twice}
 use Rattle.kt_model.specs.NameUses.{Resolved}
 use Rattle.kt_model.specs.Outlines.{outlines_of}
 use Rattle.kt_typing.specs.Typing.{body_judged}

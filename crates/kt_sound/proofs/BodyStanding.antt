@@ -18,7 +18,7 @@ use Rattle.kt_mean.specs.Evaluation.{Program, fits}
 use Rattle.kt_model.specs.TreesWithin.{trees_in, all_trees_in, called_by, returns_at}
 use Rattle.kt_model.specs.BodyPaths.{IsNodePath}
 use Rattle.kt_sound.specs.FlowOfBody.{IsFine}
-use Rattle.kt_model.specs.FlowRules.{assigned_on}
+use Rattle.kt_paths.specs.FlowRules.{assigned_on}
 use Rattle.kt_sound.proofs.TypingSteps.{Known, Kept, AsWritten}
 use Rattle.kt_sound.proofs.ValueTypes.{Lies}
 

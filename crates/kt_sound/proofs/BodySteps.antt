@@ -16,7 +16,7 @@ use Rattle.kt_mean.specs.declared.states.Way.TheVariants.{Return}
 use Rattle.kt_mean.specs.Frames.{with_local, Frame, State, Ending, Gave, Left, Over, Wrong, Run, ◌>>=◌, pure, ending_after}
 use Rattle.kt_mean.specs.Evaluation.{Program, with_values, block_from}
 use Rattle.kt_model.specs.TreesWithin.{trees_in, all_trees_in}
-use Rattle.kt_model.specs.FlowRules.{assigned_on}
+use Rattle.kt_paths.specs.FlowRules.{assigned_on}
 use Rattle.kt_sound.proofs.TypingSteps.{none_in, kept_trees}
 use Rattle.kt_sound.proofs.NoFinding.{typed_tree}
 use Rattle.kt_sound.proofs.ValueTypes.{Lies}

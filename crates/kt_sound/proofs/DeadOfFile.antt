@@ -10,7 +10,7 @@ use Rattle.kt_model.specs.Bodies.{owner_parameters, owner_trees, function_trees}
 use Rattle.kt_model.specs.BodyTrees.{Trees}
 use Rattle.kt_model.specs.BodyPaths.{IsNodePath}
 use Rattle.kt_model.specs.ControlFlow.{Node, body_nodes, body_edges}
-use Rattle.kt_model.specs.FlowRules.{IsEntered, SettlesEntered}
+use Rattle.kt_paths.specs.FlowRules.{IsEntered, SettlesEntered}
 use Rattle.kt_model.specs.declared.graph.Tag.{Tag}
 use Rattle.kt_model.specs.declared.graph.Tag.TheVariants as tag
 use Rattle.kt_model.specs.declared.uses.Owner.TheVariants as owner

@@ -6,7 +6,7 @@ use Rattle.kt_model.specs.Outlines.{outlines_of}
 use Rattle.kt_model.specs.NameUses.{Resolved}
 use Rattle.kt_model.specs.Scopes.{IsResolved}
 use Rattle.kt_typing.specs.Typing.{IsTypingFinding}
-use Rattle.kt_model.specs.FlowRules.{IsFlowViolated, SettlesEntered}
+use Rattle.kt_paths.specs.FlowRules.{IsFlowViolated, SettlesEntered}
 use Rattle.kt_model.specs.Bodies.{owner_parameters, owner_trees}
 use Rattle.kt_model.specs.declared.finding.Finding.{Finding}
 use Rattle.kt_model.specs.declared.uses.Owner.TheVariants as owner

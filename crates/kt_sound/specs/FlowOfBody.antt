@@ -8,7 +8,7 @@ use Rattle.kt_model.specs.ControlFlow.{Node, Edge, assigns, reads}
 use Rattle.kt_model.specs.declared.graph.Known.{Known}
 use Rattle.kt_model.specs.declared.graph.Variable.TheVariants.{Local}
 use Rattle.kt_model.specs.BodyPaths.{IsNodePath}
-use Rattle.kt_model.specs.FlowRules.{assigned_on}
+use Rattle.kt_paths.specs.FlowRules.{assigned_on}
 use Rattle.kt_model.specs.TreesWithin.{all_trees_in, read_by, fixed_by}
 
 -- Along every path to a node that a tree of the body has for it: a local that is read is assigned, a `val` or parameter that is assigned is not.

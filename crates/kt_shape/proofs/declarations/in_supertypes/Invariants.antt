@@ -1,7 +1,7 @@
 use Rattle.std.proofs.Common.{◌≡◌, ◌++◌, take}
 use Rattle.std.specs.List.{flat_map}
-use Rattle.kt_model.specs.ShapeRules.{no_finding, assign_target}
-use Rattle.kt_model.specs.TreeWalks.{values_give}
+use Rattle.kt_shape.specs.ShapeRules.{no_finding, assign_target}
+use Rattle.kt_shape.specs.TreeWalks.{values_give}
 use Rattle.kt_shape.proofs.declarations.in_supertypes.Given as goal
 
 abbrev pub invariant-loop-s : goal.invariant-loop-s

@@ -1,8 +1,8 @@
 use Rattle.std.proofs.Common.{◌≡◌, ◌++◌, ◌∷◌, [], ap, sym, ◌∙◌, refl, option_map, append_assoc}
 use Rattle.std.specs.List.{flat_map}
 use Rattle.kt_tree.specs.declared.ast.body.WhenBranch.{out-WhenBranch}
-use Rattle.kt_model.specs.ShapeRules.{no_finding, assign_target}
-use Rattle.kt_model.specs.TreeWalks.{kind_parts, expr_gives, stmt_gives, block_gives, branch_gives, piece_gives, condition_gives, catch_gives, lambda_gives, subject_gives, when_branch_gives, given_if}
+use Rattle.kt_shape.specs.ShapeRules.{no_finding, assign_target}
+use Rattle.kt_shape.specs.TreeWalks.{kind_parts, expr_gives, stmt_gives, block_gives, branch_gives, piece_gives, condition_gives, catch_gives, lambda_gives, subject_gives, when_branch_gives, given_if}
 use Rattle.kt_shape.proofs.WalkFolds as fold
 use Rattle.kt_shape.proofs.Puts.{put_in, put_both, put_three, put_none}
 use Rattle.kt_shape.proofs.left_sides.+left_sides.Goals as goal

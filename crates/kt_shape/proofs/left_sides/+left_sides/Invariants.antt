@@ -1,7 +1,7 @@
 use Rattle.std.proofs.Common.{◌≡◌, ◌++◌, take}
 use Rattle.std.specs.List.{flat_map}
-use Rattle.kt_model.specs.ShapeRules.{no_finding, assign_target}
-use Rattle.kt_model.specs.TreeWalks.{expr_gives, piece_gives, stmt_gives, when_branch_gives, condition_gives, catch_gives}
+use Rattle.kt_shape.specs.ShapeRules.{no_finding, assign_target}
+use Rattle.kt_shape.specs.TreeWalks.{expr_gives, piece_gives, stmt_gives, when_branch_gives, condition_gives, catch_gives}
 use Rattle.kt_shape.proofs.left_sides.+left_sides.Given as goal
 
 abbrev pub invariant-in_exprs-loop-x : goal.invariant-in_exprs-loop-x

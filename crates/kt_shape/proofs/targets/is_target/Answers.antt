@@ -1,6 +1,6 @@
 use Rattle.std.proofs.Common.{◌≡◌, true, false, ap, sym, ◌∙◌}
-use Rattle.kt_model.specs.ShapeRules.{no_finding, assign_target}
-use Rattle.kt_model.specs.TreeWalks.{kind_parts, is_dot}
+use Rattle.kt_shape.specs.ShapeRules.{no_finding, assign_target}
+use Rattle.kt_shape.specs.TreeWalks.{kind_parts, is_dot}
 use Rattle.kt_shape.proofs.WalkFolds as fold
 use Rattle.kt_shape.proofs.targets.is_target.Goals as goal
 

@@ -8,7 +8,7 @@ use Rattle.kt_tree.specs.declared.ast.declaration.File.{File}
 use Rattle.kt_model.specs.declared.finding.Finding.{Finding}
 use Rattle.kt_model.specs.declared.finding.Rule.TheVariants.{AssignTarget}
 use Rattle.kt_model.specs.DeclarationRules.{where_}
-use Rattle.kt_model.specs.TreeWalks.{class_gives, function_gives}
+use Rattle.kt_shape.specs.TreeWalks.{class_gives, function_gives}
 
 -- ASSIGN_TARGET: a left side is neither a name nor a member behind `.`.
 abbrev pub assign_target : Bool → Span → List Finding

@@ -7,7 +7,7 @@ use Rattle.std.specs.List.{flat_map}
 use Rattle.std.specs.List.Sorted.{IsStrictlyIncreasing}
 use Rattle.kt_tree.specs.declared.token.Span.{Span}
 use Rattle.kt_tree.specs.declared.ast.declaration.File.{File}
-use Rattle.kt_model.specs.TreeWalks.{class_gives, function_gives}
+use Rattle.kt_shape.specs.TreeWalks.{class_gives, function_gives}
 
 -- a tree gives its number
 abbrev pub its_number : ℕ → List ℕ

@@ -1,0 +1,3 @@
+pub mod TreeWalks
+pub mod TreeNumbers
+pub mod ShapeRules
