@@ -3,7 +3,7 @@ use Rattle.std.specs.Prelude.{◌≡◌, ◌≢◌, ℕ, ◌<◌, List, [], ◌+
 use Rattle.kt_tree.specs.declared.ast.declaration.File.{File}
 use Rattle.kt_model.specs.Bodies.{owner_parameters, owner_trees}
 use Rattle.kt_model.specs.Findings.{AreFindings}
-use Rattle.kt_paths.specs.FlowRules.{IsFlowViolated, SettlesEntered}
+use Rattle.kt_paths.specs.FlowRules.{IsPathViolated, SettlesEntered}
 use Rattle.kt_model.specs.NameUses.{Resolved}
 use Rattle.kt_model.specs.Scopes.{IsResolved}
 use Rattle.kt_typing.specs.Typing.{IsTypingFinding}
@@ -54,5 +54,5 @@ pub record AddsBody (file : File) (uses : Resolved) (place : ℕ) (old new : Lis
   pub flow : List Finding
   pub is : new ≡ old ++ (typing ++ flow)
   pub typed : AreFindings (IsTypingFinding file (file_classes file) uses (owner.Function place)) typing
-  pub flows : AreFindings (IsFlowViolated (owner_parameters uses (owner.Function place)) (owner_trees file uses (owner.Function place))) flow
+  pub flows : AreFindings (IsPathViolated file uses (owner.Function place)) flow
   pub entered : SettlesEntered (owner_parameters uses (owner.Function place)) (owner_trees file uses (owner.Function place))

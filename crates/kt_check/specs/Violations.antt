@@ -7,9 +7,8 @@ use Rattle.std.specs.Prelude.{◌≢◌, ◌⊎◌, ℕ, ◌<◌, List, length}
 use Rattle.std.specs.declared.cmp.Ordering.TheVariants as ordering
 use Rattle.kt_tree.specs.declared.ast.declaration.File.{File}
 use Rattle.kt_source.specs.SourceRules.{HasFile, IsSourceViolated}
-use Rattle.kt_model.specs.Bodies.{owner_parameters, owner_trees}
 use Rattle.kt_model.specs.DeclarationRules as declarations
-use Rattle.kt_paths.specs.FlowRules.{IsSizeViolated, IsFlowViolated}
+use Rattle.kt_paths.specs.FlowRules.{IsSizeViolated, IsPathViolated}
 use Rattle.kt_model.specs.MemberRules.{IsMisdeclared}
 use Rattle.kt_model.specs.NameRules.{IsNameViolated}
 use Rattle.kt_model.specs.NameUses.{Resolved}
@@ -24,8 +23,7 @@ use Rattle.kt_sound.specs.FileSoundness.{file_classes}
 -- A rule of typing or of paths is violated in the body of the function at this place.
 abbrev pub IsBodyViolated : File → Resolved → ℕ → Finding → Type 0
 IsBodyViolated file uses place f =
-    IsTypingFinding file (file_classes file) uses (owner.Function place) f
-    ⊎ IsFlowViolated (owner_parameters uses (owner.Function place)) (owner_trees file uses (owner.Function place)) f
+    IsTypingFinding file (file_classes file) uses (owner.Function place) f ⊎ IsPathViolated file uses (owner.Function place) f
 
 -- A rule on a file is violated, in this phase. The last two phases need what the names of the file stand for.
 pub data IsFileViolated (file : File) : ℕ → Finding → Type 0 where

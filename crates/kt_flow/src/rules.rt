@@ -3,7 +3,7 @@ ghost use Rattle.std.specs.Prelude.{◌≡◌, ◌↔◌, [], length, IfOk, IsTr
 ghost use Rattle.kt_model.specs.Bodies.{owner_parameters, owner_trees, IsTooLarge};
 ghost use Rattle.kt_model.specs.ControlFlow.{body_nodes};
 ghost use Rattle.kt_model.specs.Findings.{AreFindings};
-ghost use Rattle.kt_paths.specs.FlowRules.{IsFlowViolated, SettlesEntered};
+ghost use Rattle.kt_paths.specs.FlowRules.{IsPathViolated, SettlesEntered};
 ghost use Rattle.kt_init.specs.Statuses.{Analyses};
 ghost use Rattle.kt_flow.specs.Notes.{RiseFromZero, AreRising};
 ghost use Rattle.kt_flow.specs.Against.{IsAgainstBefore};
@@ -60,7 +60,7 @@ fn found_in_order(
 /// above 0, or that names a local of another body: no file that was read and resolved has one.
 pub fn flow(alloc: Global, body: &Body<'_>) -> Result<Findings, NoMemory>
     requires { IsTooLarge (length (body_nodes (owner_parameters body.now.uses.now body.now.owner) (owner_trees body.now.file.now body.now.uses.now body.now.owner))) 0 (length body.now.table.now) → ⊥ }
-    ensures findings { IfOk result (AreFindings (IsFlowViolated (owner_parameters body.now.uses.now body.now.owner) (owner_trees body.now.file.now body.now.uses.now body.now.owner))) }
+    ensures findings { IfOk result (AreFindings (IsPathViolated body.now.file.now body.now.uses.now body.now.owner)) }
     ensures entered { IfOk result (λ _. SettlesEntered (owner_parameters body.now.uses.now body.now.owner) (owner_trees body.now.file.now body.now.uses.now body.now.owner)) }
 {
     let notes = notes_of(alloc, body)?;

@@ -2,24 +2,30 @@
 --
 -- From the Kotlin specification, "Variable initialization analysis": a local is read only where it is assigned along every path to there, and a `val` or
 -- parameter is assigned only where it is assigned along none. The codes, the spans and the limits are this project's own. Paths go by nodes; all of them,
--- one at a time. The code numbers the nodes and solves equations over their edges.
-use Rattle.std.specs.Prelude.{◌≡◌, ℕ, ◌<◌, Bool, true, false, List, [], ◌∷◌, length, Some, Contains, slice_get, IsTrue, ◌↔◌}
+-- one at a time. The code numbers the nodes and solves equations over their edges. "Function declaration": a function whose result isn't `Unit` gives a value
+-- wherever it ends, so no path leads to the end of its block.
+use Rattle.std.specs.Prelude.{◌≡◌, ◌≢◌, ◌⊎◌, ℕ, ◌<◌, Bool, true, false, List, [], ◌∷◌, length, Option, Some, None, Contains, slice_get, IsTrue, ◌↔◌}
+use Rattle.kt_tree.specs.declared.ast.body.Block.{Block}
+use Rattle.kt_tree.specs.declared.ast.declaration.Contract.{Contract}
 use Rattle.kt_tree.specs.declared.ast.declaration.File.{File}
+use Rattle.kt_tree.specs.declared.ast.declaration.FunctionBody.TheVariants as written
 use Rattle.kt_tree.specs.declared.ast.declaration.FunctionDecl.{FunctionDecl}
-use Rattle.kt_model.specs.NameUses.{Resolved}
+use Rattle.kt_model.specs.BuiltIns.{unit_type}
+use Rattle.kt_model.specs.NameUses.{Resolved, declaration_type, function_place}
 use Rattle.kt_model.specs.Bodies.{owner_trees, owner_parameters, variables_of, IsTooLarge}
-use Rattle.kt_model.specs.BodyTrees.{Tree, Trees, number}
+use Rattle.kt_model.specs.BodyTrees.{Tree, Trees, Empty', First', Return', Throw', number}
 use Rattle.kt_model.specs.ControlFlow.{Node, Edge, assigns, reads, body_nodes, body_edges}
 use Rattle.kt_model.specs.BodyPaths.{IsNodePath}
 use Rattle.kt_model.specs.NodePaths.{assigned_after}
 use Rattle.kt_model.specs.TreesWithin.{all_trees_in, word_of, read_by, fixed_by}
 use Rattle.kt_model.specs.declared.graph.Known.{Known}
-use Rattle.kt_model.specs.declared.graph.Tag.TheVariants.{In}
+use Rattle.kt_model.specs.declared.graph.Tag.TheVariants.{In, Out}
 use Rattle.kt_model.specs.declared.graph.Variable.{Variable}
 use Rattle.kt_model.specs.declared.graph.Variable.TheVariants.{Local}
+use Rattle.kt_model.specs.declared.uses.Owner.{Owner}
 use Rattle.kt_model.specs.declared.uses.Owner.TheVariants as owner
 use Rattle.kt_model.specs.declared.finding.Finding.{Finding}
-use Rattle.kt_model.specs.declared.finding.Rule.TheVariants.{Unassigned, ValTwice, TooManyLocals, FlowTooLarge}
+use Rattle.kt_model.specs.declared.finding.Rule.TheVariants.{Unassigned, ValTwice, NoReturn, TooManyLocals, FlowTooLarge}
 
 -- whether a variable is assigned after a path; at first none is
 abbrev pub assigned_on : List Node → Variable → Bool
@@ -44,6 +50,37 @@ pub data IsFlowViolated (parameters : List ℕ) (body : Trees) : Finding → Typ
   val_twice : (t : Tree) (x : ℕ) (k : Known) (n : Node) → Contains (all_trees_in body) t → fixed_by t ≡ Some x → n.tree ≡ number t → Contains n.effects (assigns x k)
       → IsReachedNode (body_edges parameters body) n → ¬ IsOnAll (body_edges parameters body) n (Local x) false
       → IsFlowViolated parameters body (record { rule = ValTwice; span = word_of t })
+
+-- ---- the end of a body
+
+-- the last of trees that stand one behind another
+abbrev pub last_tree : Trees → Option Tree
+last_tree Empty' = None
+last_tree (First' t Empty') = Some t
+last_tree (First' t (First' u rest)) = last_tree (First' u rest)
+
+-- whether what is behind a tree can follow it: not behind a `return` or a `throw`
+abbrev pub can_be_followed : Tree → Bool
+can_be_followed (Return' n value) = false
+can_be_followed (Throw' n e) = false
+can_be_followed t = true
+
+-- The end of the trees of a body is reached: there are none, or some path ends at the `out` of the last one, which can be followed.
+pub data IsEndReached (parameters : List ℕ) (body : Trees) : Type 0 where
+  no_tree : body ≡ Empty' → IsEndReached parameters body
+  behind_last : (t : Tree) (n : Node) → last_tree body ≡ Some t → can_be_followed t ≡ true → n.tree ≡ number t → n.tag ≡ Out
+      → IsReachedNode (body_edges parameters body) n → IsEndReached parameters body
+
+-- NO_RETURN: the end of a block is reached, and the function's result isn't `Unit`. The finding stands at the function's name.
+pub data IsEndViolated (file : File) (uses : Resolved) : Owner → Finding → Type 0 where
+  no_return : (place : ℕ) (f : FunctionDecl) (contract : Option Contract) (block : Block) → slice_get file.functions place ≡ Some f
+      → f.body ≡ Some (written.Block contract block) → declaration_type uses (function_place place) ≢ Some unit_type
+      → IsEndReached (owner_parameters uses (owner.Function place)) (owner_trees file uses (owner.Function place))
+      → IsEndViolated file uses (owner.Function place) (record { rule = NoReturn; span = f.name.span })
+
+-- A rule along the paths of an owner's body is violated.
+abbrev pub IsPathViolated : File → Resolved → Owner → Finding → Type 0
+IsPathViolated file uses o f = IsFlowViolated (owner_parameters uses o) (owner_trees file uses o) f ⊎ IsEndViolated file uses o f
 
 -- ---- which trees are entered
 

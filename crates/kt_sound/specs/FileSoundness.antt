@@ -6,7 +6,7 @@ use Rattle.kt_model.specs.Outlines.{outlines_of}
 use Rattle.kt_model.specs.NameUses.{Resolved}
 use Rattle.kt_model.specs.Scopes.{IsResolved}
 use Rattle.kt_typing.specs.Typing.{IsTypingFinding}
-use Rattle.kt_paths.specs.FlowRules.{IsFlowViolated, SettlesEntered}
+use Rattle.kt_paths.specs.FlowRules.{IsPathViolated, SettlesEntered}
 use Rattle.kt_model.specs.Bodies.{owner_parameters, owner_trees}
 use Rattle.kt_model.specs.declared.finding.Finding.{Finding}
 use Rattle.kt_model.specs.declared.uses.Owner.TheVariants as owner
@@ -23,7 +23,7 @@ file_classes file = written (outlines_of file)
 -- No typing rule and no rule along paths is violated in the body of the function at this place, and which of its trees are entered is settled.
 pub record IsBodyAccepted (file : File) (uses : Resolved) (place : ℕ) : Type 0 where
   pub typed : (f : Finding) → IsTypingFinding file (file_classes file) uses (owner.Function place) f → ⊥
-  pub flows : (f : Finding) → IsFlowViolated (owner_parameters uses (owner.Function place)) (owner_trees file uses (owner.Function place)) f → ⊥
+  pub flows : (f : Finding) → IsPathViolated file uses (owner.Function place) f → ⊥
   pub entered : SettlesEntered (owner_parameters uses (owner.Function place)) (owner_trees file uses (owner.Function place))
 
 -- The names of a file are resolved, it has a `main`, and each of its bodies is accepted.

@@ -3,8 +3,8 @@
 -- From the Kotlin specification, "Type system", "Expressions", "Statements" and "Local type inference": an operand or an argument must have a type
 -- under the one that is asked for; a local takes its written type, else that of its initialiser. The ways in which a tree is typed, the codes and the
 -- spans are this project's own. Each form has one definition: what it asks of its parts, and what it is where they have types. Forms that are not
--- open yet are refused as no part of the language, which no file that is parsed can have; an `if` is open where its value is not taken. The code types
--- each operand once, where the definition types those of a sum and of an equality anew for each question, and keeps the types of locals in a table.
+-- open yet are refused as no part of the language, which no file that is parsed can have; so is an `if` with an empty branch where its value is taken. The code
+-- types each operand once, where the definition types those of a sum and of an equality anew for each question, and keeps the types of locals in a table.
 use Rattle.std.specs.Prelude.{ℕ, zero, suc, length, ◌==◌, ◌&&◌, ◌||◌, nat_eq, nat_le, Bool, true, false, not, List, [], ◌∷◌, ◌++◌, Option, Some, None, slice_get, option_map, Contains, if◌then◌else◌}
 use Rattle.std.specs.Map.{lookup}
 use Rattle.kt_tree.specs.declared.token.Span.{Span}
@@ -14,7 +14,7 @@ use Rattle.kt_tree.specs.declared.ast.declaration.FunctionDecl.{FunctionDecl}
 use Rattle.kt_tree.specs.declared.ast.declaration.FunctionBody.{FunctionBody}
 use Rattle.kt_tree.specs.declared.ast.declaration.FunctionBody.TheVariants as written
 use Rattle.kt_model.specs.Classes.{Classes}
-use Rattle.kt_model.specs.Subtypes.{class_of, is_under}
+use Rattle.kt_model.specs.Subtypes.{class_of, is_under, upper_of}
 use Rattle.kt_model.specs.BuiltIns.{BuiltIn, built_in_named}
 use Rattle.kt_model.specs.NameUses.{Resolved, parameters_at, declaration_type, function_place}
 use Rattle.kt_model.specs.Bodies.{owner_parameters, owner_trees}
@@ -365,6 +365,27 @@ last_of [] = []
 last_of (t ∷ []) = t ∷ []
 last_of (t ∷ u ∷ ts) = last_of (u ∷ ts)
 
+-- Where the value of an `if` is taken its branches are checked as it is, else inferred. Of the statements of a branch the last alone is valued.
+abbrev pub branch_way : Way → Way
+branch_way (Checked t) = Checked t
+branch_way way = Inferred
+
+abbrev pub branch_ways : Way → Trees → Ways
+branch_ways way Empty' = Each way
+branch_ways way (First' t Empty') = Each way
+branch_ways way (First' t (First' u rest)) = Then Unvalued (branch_ways way (First' u rest))
+
+-- An `if` has the type that its branches are checked against, else their upper bound.
+abbrev pub joined_type : Classes → Way → KtType → KtType → KtType
+joined_type classes (Checked t) a b = t
+joined_type classes way a b = upper_of classes a b
+
+-- by the types of the last statements of its branches
+abbrev pub joined_claim : Classes → Way → Mark → List (Option KtType) → List (Option KtType) → Claim
+joined_claim classes way n (Some a ∷ as) (Some b ∷ bs) = Gives (joined_type classes way a b)
+joined_claim classes way n (a ∷ as) (b ∷ bs) = Lacks
+joined_claim classes way n as bs = Breaks Syntax n.span
+
 -- a condition, and the statements of two branches behind it
 abbrev pub branched : Judgement → Judgements → Judgements → Judgements
 branched c a b =
@@ -435,10 +456,15 @@ unfoldable mutual
       let first = all_judged cx (Each Unvalued) condition.locals a in
       let second = all_judged cx (Each Unvalued) first.locals b in
       closed cx Unvalued n (branched condition first second) (Gives unit)
+  -- The branches are checked, so the tree is not checked once more.
+  judged cx way locals (If' n c a b) =
+      let condition = judged cx (Checked boolean) locals c in
+      let first = all_judged cx (branch_ways (branch_way way) a) condition.locals a in
+      let second = all_judged cx (branch_ways (branch_way way) b) first.locals b in
+      closed cx Plain n (branched condition first second) (joined_claim cx.classes way n (last_of first.each_found) (last_of second.each_found))
   judged cx way locals (Return' n value) =
       closed cx way n (all_judged cx (Each (value_way cx.result)) locals value) (return_claim cx.result n (count value))
   -- the forms that are not open
-  judged cx way locals (If' n c a b) = not_open cx way n locals
   judged cx way locals (Throw' n e) = not_open cx way n locals
   judged cx way locals (Shut' n) = not_open cx way n locals
 
@@ -458,10 +484,9 @@ abbrev pub function_signature : (ℕ → Option KtType) → List ℕ → KtType 
 function_signature written parameters result =
     record { least = length parameters; most = length parameters; ways = parameter_ways written parameters; result = result }
 
--- Until results are open: a function whose result is `Unit`.
+-- A function that is called has a written result; that of a block without one is `Unit`.
 abbrev pub open_signature : (ℕ → Option KtType) → List ℕ → Option KtType → Option Signature
-open_signature written parameters None = None
-open_signature written parameters (Some t) = if is_unit t then Some (function_signature written parameters unit) else None
+open_signature written parameters result = option_map (function_signature written parameters) result
 
 unfoldable pub signature_of : Resolved → ℕ → Option Signature
 signature_of resolved f =
