@@ -1,3 +1,1 @@
-pub mod TreeWalks
-pub mod TreeNumbers
 pub mod ShapeRules
