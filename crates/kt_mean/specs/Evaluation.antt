@@ -7,8 +7,8 @@
 -- A wrong use is: a local that holds nothing is read; a `val` or parameter that holds a value is assigned; an operand is of another kind than its operator
 -- needs; a condition is no truth value; an argument, an assigned or a returned value lies outside the written type; a dead tree is entered; a function
 -- whose result isn't `Unit` ends without a value. There are no types in a state: what a value is, is looked at here each time, and never in the code.
-use Rattle.std.specs.Prelude.{ℕ, zero, suc, ◌+◌, ◌-◌, ◌==◌, nat_lt, ℤ, pos, int_lt, int_le, Bool, true, false, ◌&&◌, ◌||◌, not, Option, Some, None, List, [], ◌∷◌, ◌++◌, codes, if◌then◌else◌}
-use Rattle.std.specs.Int.{w32, int_wrapping_add, int_wrapping_sub, int_wrapping_mul, int_wrapping_neg}
+use Rattle.std.specs.Prelude.{ℕ, zero, suc, ◌+◌, ◌-◌, ◌==◌, nat_lt, ℤ, pos, int_lt, int_le, int_rem, Bool, true, false, ◌&&◌, ◌||◌, not, Option, Some, None, List, [], ◌∷◌, ◌++◌, codes, if◌then◌else◌}
+use Rattle.std.specs.Int.{w32, int_wrapping_add, int_wrapping_sub, int_wrapping_mul, int_wrapping_div, int_wrapping_neg}
 use Rattle.std.specs.Ordering.{int_eq}
 use Rattle.std.specs.Fmt.{signed_decimal}
 use Rattle.kt_tree.specs.declared.ast.part.Sign.{Sign}
@@ -28,6 +28,8 @@ use Rattle.kt_mean.specs.Events.{Printed}
 use Rattle.kt_mean.specs.Frames.{Locals, no_locals, with_local, Frame, State, Ending, Gave, Left, Over, Wrong, Run, ◌>>=◌, pure, leave, over, wrong, turned}
 use Rattle.kt_mean.specs.declared.states.Value.{Value}
 use Rattle.kt_mean.specs.declared.states.Value.TheVariants as value
+use Rattle.kt_mean.specs.declared.states.Exception.{Exception}
+use Rattle.kt_mean.specs.declared.states.Exception.TheVariants.{DivisionByZero}
 use Rattle.kt_mean.specs.declared.states.Way.TheVariants as way
 use Rattle.kt_mean.specs.declared.states.Limit.TheVariants as limit
 
@@ -124,11 +126,19 @@ abbrev pub signed : Sign → ℤ → ℤ
 signed sign.Minus a = int_wrapping_neg w32 a
 signed sign.Plus a = a
 
--- Division comes with exceptions.
+-- "Exceptions": what is thrown leaves the trees around it.
+abbrev pub throws : Exception → Run Value
+throws e = leave (way.Throw e)
+
+-- "Multiplicative expressions": `/` truncates towards zero, and what `%` leaves has the sign of the left operand. By zero both throw.
+abbrev pub by_divisor : ℤ → Run Value → Run Value
+by_divisor b r = choose (int_eq b (pos 0)) (throws DivisionByZero) r
+
 abbrev pub arithmetic_of : Arithmetic → ℤ → ℤ → Run Value
 arithmetic_of arithmetic.Subtract a b = pure (value.Int (int_wrapping_sub w32 a b))
 arithmetic_of arithmetic.Multiply a b = pure (value.Int (int_wrapping_mul w32 a b))
-arithmetic_of _ a b = wrong
+arithmetic_of arithmetic.Divide a b = by_divisor b (pure (value.Int (int_wrapping_div w32 a b)))
+arithmetic_of arithmetic.Remainder a b = by_divisor b (pure (value.Int (int_rem a b)))
 
 -- "Comparison expressions": integers by their order.
 abbrev pub compared : Comparison → ℤ → ℤ → Bool
@@ -242,6 +252,7 @@ ended false result v s = choose (is_unit result) (Gave value.Unit s) Wrong
 abbrev pub call_end : Function → Frame → ℕ → Ending Value → Ending Value
 call_end f here calls (Gave v s) = ended f.is_expression f.result v (resume here calls s)
 call_end f here calls (Left (way.Return v) s) = given f.result v (resume here calls s)
+call_end f here calls (Left (way.Throw e) s) = Left (way.Throw e) (resume here calls s)
 call_end f here calls (Over k) = Over k
 call_end f here calls Wrong = Wrong
 

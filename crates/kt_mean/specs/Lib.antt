@@ -1,4 +1,5 @@
 pub mod Events
+pub mod Exceptions
 pub mod Frames
 pub mod Evaluation
 pub mod WholeRun

@@ -4,6 +4,7 @@ use Rattle.kt_model.specs.BodyTrees.{Tree}
 use Rattle.kt_mean.specs.Frames.{State, Ending, Gave, Left, Over, Wrong, Outcome, Run, no_locals}
 use Rattle.kt_mean.specs.Evaluation.{Program, eval, called}
 use Rattle.kt_mean.specs.declared.states.Value.{Value}
+use Rattle.kt_mean.specs.declared.states.Way.TheVariants as way
 use Rattle.kt_mean.specs.declared.states.Limit.{Limit}
 use Rattle.kt_mean.specs.declared.states.Limit.TheVariants as limit
 use Rattle.kt_mean.specs.declared.states.RunEnding.{RunEnding}
@@ -24,9 +25,10 @@ abbrev pub limit_ending : Limit → RunEnding
 limit_ending limit.Steps = end.Steps
 limit_ending limit.Calls = end.Calls
 
--- how a run ends that ends so; it has no end by a wrong use, and nothing leaves `main`
+-- how a run ends that ends so; it has no end by a wrong use, and no `return` leaves a call
 abbrev pub run_ending : Ending Value → Option RunEnding
 run_ending (Gave v s) = Some end.Done
-run_ending (Left k s) = None
+run_ending (Left (way.Return v) s) = None
+run_ending (Left (way.Throw e) s) = Some (end.Uncaught e)
 run_ending (Over k) = Some (limit_ending k)
 run_ending Wrong = None

@@ -1,4 +1,4 @@
-//! Values, what leaves a body before its end, limits, and how a run ends.
+//! Values, exceptions, what leaves a body before its end, limits, and how a run ends.
 
 /// A value of the language.
 #[derive(Clone, Copy, Debug, PartialEq, Eq)]
@@ -8,10 +8,18 @@ pub enum Value {
     Int(i32),
 }
 
+/// An exception that the language throws.
+#[derive(Clone, Copy, Debug, PartialEq, Eq)]
+pub enum Exception {
+    /// A number is divided by zero.
+    DivisionByZero,
+}
+
 /// What leaves the body of a function before its end.
 #[derive(Clone, Copy, Debug, PartialEq, Eq)]
 pub enum Way {
     Return(Value),
+    Throw(Exception),
 }
 
 /// A limit that ends a run at once.
@@ -32,4 +40,6 @@ pub enum RunEnding {
     Steps,
     /// One more call was made than may be under way at once.
     Calls,
+    /// An exception left `main`.
+    Uncaught(Exception),
 }

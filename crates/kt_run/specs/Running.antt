@@ -102,6 +102,7 @@ abbrev pub answered : Bool → Result Value Halt → Result Value Halt
 answered true (Ok v) = Ok v
 answered false (Ok v) = Ok value.Unit
 answered b (Err (halt.Way (way.Return v))) = Ok v
+answered b (Err (halt.Way (way.Throw e))) = Err (halt.Way (way.Throw e))
 answered b (Err (halt.Over k)) = Err (halt.Over k)
 answered b (Err halt.OutputFault) = Err halt.OutputFault
 answered b (Err halt.NoMemory) = Err halt.NoMemory
@@ -127,6 +128,7 @@ abbrev pub RunsOn : Program → ℕ → List ℕ → OutputState → OutputState
 RunsOn p steps input old new end.Done = RunsWhole p steps input old new ending.Done
 RunsOn p steps input old new end.Steps = RunsWhole p steps input old new ending.Steps
 RunsOn p steps input old new end.Calls = RunsWhole p steps input old new ending.Calls
+RunsOn p steps input old new (end.Uncaught e) = RunsWhole p steps input old new (ending.Uncaught e)
 RunsOn p steps input old new end.WriteFault = PutsFront old new (text_of (whole p steps input).events)
 RunsOn p steps input old new end.NoMemory = PutsSome old new (text_of (whole p steps input).events)
 
@@ -134,10 +136,11 @@ abbrev pub end_of_limit : Limit → End
 end_of_limit limit.Steps = end.Steps
 end_of_limit limit.Calls = end.Calls
 
--- what the answer of the call of `main` says of the run; nothing leaves `main`
+-- what the answer of the call of `main` says of the run; no `return` leaves a call
 abbrev pub end_told : Result Value Halt → End
 end_told (Ok v) = end.Done
-end_told (Err (halt.Way w)) = end.Done
+end_told (Err (halt.Way (way.Return v))) = end.Done
+end_told (Err (halt.Way (way.Throw e))) = end.Uncaught e
 end_told (Err (halt.Over k)) = end_of_limit k
 end_told (Err halt.OutputFault) = end.WriteFault
 end_told (Err halt.NoMemory) = end.NoMemory

@@ -7,7 +7,7 @@ ghost use Rattle.kt_run.specs.Running.{part, tree_seen, IsNeverWrong, NeverWrong
 use crate::evaluator::{Evaluator, Node, ResolvedFile};
 use crate::frame::Frame;
 use crate::state::{Halt, State};
-use kt_mean::{Limit, Value};
+use kt_mean::{Exception, Limit, Value, Way};
 use kt_model::uses::Uses;
 use kt_outside::Output;
 use kt_tree::ast::File;
@@ -22,6 +22,8 @@ pub enum End {
     Steps,
     /// One more call was made than may be under way at once.
     Calls,
+    /// An exception left `main`.
+    Uncaught(Exception),
     /// A put failed, and nothing was put after it.
     WriteFault,
     /// There was no memory.
@@ -30,7 +32,7 @@ pub enum End {
 
 /// Runs the function at the place `main` of a file with so many steps, and puts its text on `out`.
 ///
-/// `Done`, `Steps` and `Calls` come exactly where the written meaning ends so; `WriteFault` only where a put failed. The input is not asked yet, so the
+/// `Done`, `Steps`, `Calls` and `Uncaught` come exactly where the written meaning ends so; `WriteFault` only where a put failed. The input is not asked yet, so the
 /// answer is that for every input. Which trees are dead is not looked at: the answer is that with any trees dead that no input leads to.
 pub fn run_file<O: Output>(
     alloc: Global,
@@ -63,7 +65,8 @@ fn end_of(answer: Result<Value, Halt>) -> End
 {
     match answer {
         Ok(_) => End::Done,
-        Err(Halt::Way(_)) => End::Done,
+        Err(Halt::Way(Way::Return(_))) => End::Done,
+        Err(Halt::Way(Way::Throw(exception))) => End::Uncaught(exception),
         Err(Halt::Over(Limit::Steps)) => End::Steps,
         Err(Halt::Over(Limit::Calls)) => End::Calls,
         Err(Halt::OutputFault) => End::WriteFault,

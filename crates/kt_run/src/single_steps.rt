@@ -89,6 +89,7 @@ pub(crate) fn call_end(
             _ => Ok(Value::Unit),
         },
         Err(Halt::Way(Way::Return(value))) => Ok(value),
+        Err(Halt::Way(Way::Throw(exception))) => Err(Halt::Way(Way::Throw(exception))),
         Err(Halt::Over(limit)) => Err(Halt::Over(limit)),
         Err(Halt::OutputFault) => Err(Halt::OutputFault),
         Err(Halt::NoMemory) => Err(Halt::NoMemory),

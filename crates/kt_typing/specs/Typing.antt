@@ -8,7 +8,6 @@
 use Rattle.std.specs.Prelude.{ℕ, zero, suc, length, ◌==◌, ◌&&◌, ◌||◌, nat_eq, nat_le, Bool, true, false, not, List, [], ◌∷◌, ◌++◌, Option, Some, None, slice_get, option_map, Contains, if◌then◌else◌}
 use Rattle.std.specs.Map.{lookup}
 use Rattle.kt_tree.specs.declared.token.Span.{Span}
-use Rattle.kt_tree.specs.declared.ast.part.Arithmetic.TheVariants.{Subtract, Multiply}
 use Rattle.kt_tree.specs.declared.ast.declaration.File.{File}
 use Rattle.kt_tree.specs.declared.ast.declaration.FunctionDecl.{FunctionDecl}
 use Rattle.kt_tree.specs.declared.ast.declaration.FunctionBody.{FunctionBody}
@@ -223,8 +222,7 @@ sum_operator false = record { left = Checked int; right = Checked int; gives = i
 -- the operators that are open, by whether the left operand is a text
 abbrev pub operator_of : Operation → Bool → Option Operator
 operator_of Sum' text = Some (sum_operator text)
-operator_of (Arithmetic' Subtract) text = Some (sum_operator false)
-operator_of (Arithmetic' Multiply) text = Some (sum_operator false)
+operator_of (Arithmetic' o) text = Some (sum_operator false)
 operator_of _ text = None
 
 abbrev pub operator_demand : Option Operator → Mark → ℕ → Demand

@@ -9,7 +9,7 @@ use Rattle.ktflow.specs.Course.{Course, Ending, Usage, Refused, Ran, askings, li
 use Rattle.ktflow.specs.Language.{IsRefused}
 use Rattle.ktflow.specs.Program.{HasCourse, request_of, file_of, counted}
 use Rattle.ktflow.specs.Invoking.{Outside, HasShape}
-use Rattle.kt_mean.specs.declared.states.RunEnding.TheVariants.{Done, Steps, Calls}
+use Rattle.kt_mean.specs.declared.states.RunEnding.TheVariants.{Done, Steps, Calls, Uncaught}
 
 -- ---- the premises
 
@@ -64,6 +64,7 @@ is_done (Refused report) = false
 is_done (Ran Done) = true
 is_done (Ran Steps) = false
 is_done (Ran Calls) = false
+is_done (Ran (Uncaught e)) = false
 
 -- a limit of the written meaning was met
 abbrev pub is_limit : Ending → Bool
@@ -72,6 +73,16 @@ is_limit (Refused report) = false
 is_limit (Ran Done) = false
 is_limit (Ran Steps) = true
 is_limit (Ran Calls) = true
+is_limit (Ran (Uncaught e)) = false
+
+-- an exception left `main`
+abbrev pub is_uncaught : Ending → Bool
+is_uncaught Usage = false
+is_uncaught (Refused report) = false
+is_uncaught (Ran Done) = false
+is_uncaught (Ran Steps) = false
+is_uncaught (Ran Calls) = false
+is_uncaught (Ran (Uncaught e)) = true
 
 -- Where the bytes are told, the status is this number only where the call has a course that ends so; and where it has one, the status is
 -- this number, unless there was a fault or want of memory.
@@ -133,6 +144,7 @@ pub record HasStatuses (words : List (List ℕ)) (before after : Outside) (statu
   pub input_fault : status ≡ 4 → IsInputFault words before after
   pub output_fault : status ≡ 5 → Rose before.out.faults after.out.faults ⊎ Rose before.err.faults after.err.faults
   pub memory : status ≡ 6 → HasShape words
+  pub uncaught : MeansEnding 7 is_uncaught words before after status
   pub limit : MeansEnding 9 is_limit words before after status
 
 -- ---- the order of causes

@@ -2,7 +2,8 @@
 use Rattle.std.specs.Prelude.{◌≡◌, ℕ, suc, List, [], ◌∷◌, ◌++◌, codes, count_by, nat_eq}
 use Rattle.kt_mean.specs.Events.{Event, Asked, Printed, text_of, RunCourse}
 use Rattle.kt_mean.specs.declared.states.RunEnding.{RunEnding}
-use Rattle.kt_mean.specs.declared.states.RunEnding.TheVariants.{Done, Steps, Calls}
+use Rattle.kt_mean.specs.declared.states.RunEnding.TheVariants.{Done, Steps, Calls, Uncaught}
+use Rattle.kt_mean.specs.Exceptions.{class_name, message}
 
 -- How a call ends: by words without a shape, by a refusal with its report, or as its run ends.
 pub data Ending : Type 0 where
@@ -34,6 +35,7 @@ abbrev pub line_of_run : RunEnding → List ℕ
 line_of_run Done = []
 line_of_run Steps = codes "limit steps\n"
 line_of_run Calls = codes "limit calls\n"
+line_of_run (Uncaught e) = codes "uncaught " ++ (class_name e ++ (codes ": " ++ (message e ++ 10 ∷ [])))
 
 -- the text on `err`: the usage line, the report, or the line of the run
 abbrev pub line_of : Ending → List ℕ
@@ -41,11 +43,12 @@ line_of Usage = codes "usage: ktflow check FILE or ktflow run [--steps N] FILE\n
 line_of (Refused report) = report
 line_of (Ran ending) = line_of_run ending
 
--- the status after a run: 9 where a limit of the written meaning is met
+-- the status after a run: 9 where a limit of the written meaning is met, 7 where an exception leaves `main`
 abbrev pub status_of_run : RunEnding → ℕ
 status_of_run Done = 0
 status_of_run Steps = 9
 status_of_run Calls = 9
+status_of_run (Uncaught e) = 7
 
 abbrev pub status_of : Ending → ℕ
 status_of Usage = 2
