@@ -1,5 +1,5 @@
 -- The number that bounds the depth is no part of the meaning of bodies.
-use Rattle.std.proofs.Common.{◌≡◌, ℕ, ℤ, zero, suc, ◌-◌, ◌≤◌, ◌==◌, nat_lt, Bool, true, false, Option, Some, None, if◌then◌else◌, List, [], ◌∷◌, ◌++◌, refl, sym, ap, ◌∙◌, arith}
+use Rattle.std.proofs.Common.{◌≡◌, ℕ, ℤ, pos, int_eq, zero, suc, ◌-◌, ◌≤◌, ◌==◌, nat_lt, Bool, true, false, Option, Some, None, if◌then◌else◌, List, [], ◌∷◌, ◌++◌, refl, sym, ap, ◌∙◌, arith}
 use Rattle.std.proofs.lemmas.Bool.{eq-eqb}
 use Rattle.kt_model.specs.declared.kinds.KtType.{KtType}
 use Rattle.kt_tree.specs.declared.ast.part.Arithmetic.{Arithmetic}
@@ -9,10 +9,11 @@ use Rattle.kt_model.specs.BodyTrees.{Operation, Int', Bool', Null', Template', S
 use Rattle.kt_mean.specs.declared.states.Value.{Value}
 use Rattle.kt_mean.specs.declared.states.Value.TheVariants as value
 use Rattle.kt_mean.specs.declared.states.Way.{Way}
+use Rattle.kt_mean.specs.declared.states.Exception.TheVariants.{DivisionByZero}
 use Rattle.kt_mean.specs.declared.states.Way.TheVariants as way
 use Rattle.kt_mean.specs.declared.states.Limit.TheVariants as limit
 use Rattle.kt_mean.specs.Frames.{Frame, State, Ending, Gave, Left, Over, Wrong, Outcome, Run, ◌>>=◌, ending_after, events_after, pure, leave, over, wrong, turned}
-use Rattle.kt_mean.specs.Evaluation.{Function, Program, choose, fits, is_unit, spend, read, read_value, store, write, write_over, print, text_of_value, on_one, on_two, arithmetic_of, equal_of, truth_of, returned, println_name, print_name, built_in, operated, most_calls, begun, resume, given, ended, call_end, with_values, block_from, block, asked, truth_tree, not_tree, and_tree, or_tree, if_tree, arguments_fit, invoke, limited, called, checked, operand_or_one, tree_at, entered, eval, meaning}
+use Rattle.kt_mean.specs.Evaluation.{Function, Program, choose, fits, is_unit, spend, read, read_value, store, write, write_over, print, text_of_value, on_one, on_two, throws, by_divisor, arithmetic_of, equal_of, truth_of, returned, println_name, print_name, built_in, operated, most_calls, begun, resume, given, ended, call_end, with_values, block_from, block, asked, truth_tree, not_tree, and_tree, or_tree, if_tree, arguments_fit, invoke, limited, called, checked, operand_or_one, tree_at, entered, eval, meaning}
 use Rattle.kt_mean.specs.WholeRun.{start}
 use Rattle.kt_mean.specs.EvaluationLaws.{DepthIsNoPart, MeaningUnfolds, WholeIsMeaning}
 
@@ -128,11 +129,18 @@ two_falls s f h (value.Int a ∷ value.Bool b ∷ vs) = wrong_falls s
 two_falls s f h (value.Int a ∷ value.Int b ∷ []) = h a b
 two_falls s f h (value.Int a ∷ value.Int b ∷ v ∷ vs) = wrong_falls s
 
+divisor_falls : (s : State) (b : ℤ) (v : Value) → Falls s.steps (by_divisor b (pure v) s).ending
+divisor_falls s b v = by (int_eq b (pos 0))
+  where
+    by : (is_zero : Bool) → Falls s.steps (choose is_zero (throws DivisionByZero) (pure v) s).ending
+    by true = leave_falls (way.Throw DivisionByZero) s
+    by false = pure_falls v s
+
 arithmetic_falls : (s : State) (o : Arithmetic) (a b : ℤ) → Falls s.steps (arithmetic_of o a b s).ending
 arithmetic_falls s arithmetic.Subtract a b = pure_falls _ s
 arithmetic_falls s arithmetic.Multiply a b = pure_falls _ s
-arithmetic_falls s arithmetic.Divide a b = wrong_falls s
-arithmetic_falls s arithmetic.Remainder a b = wrong_falls s
+arithmetic_falls s arithmetic.Divide a b = divisor_falls s b _
+arithmetic_falls s arithmetic.Remainder a b = divisor_falls s b _
 
 equal_falls : (s : State) (o : Equality) (vs : List Value) → Falls s.steps (equal_of o vs s).ending
 equal_falls s o [] = wrong_falls s
@@ -202,6 +210,7 @@ ended_falls n false result v s h = by (is_unit result)
 call_end_falls : (n : ℕ) (f : Function) (here : Frame) (calls : ℕ) (e : Ending Value) → Falls n e → Falls n (call_end f here calls e)
 call_end_falls n f here calls (Gave v s) h = ended_falls n f.is_expression f.result v (resume here calls s) h
 call_end_falls n f here calls (Left (way.Return v) s) h = given_falls n f.result v (resume here calls s) h
+call_end_falls n f here calls (Left (way.Throw e) s) h = h
 call_end_falls n f here calls (Over l) h = tt
 call_end_falls n f here calls Wrong h = tt
 

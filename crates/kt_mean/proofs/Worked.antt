@@ -25,5 +25,8 @@ worked = record {
   returns_from_inside = record { events_are = refl; ends = refl };
   edges_compared = record { events_are = refl; ends = refl };
   equal_values = record { events_are = refl; ends = refl };
+  numbers_divided = record { events_are = refl; ends = refl };
+  thrown_out_of_a_call = record { events_are = refl; ends = refl };
+  thrown_before_a_store = record { events_are = refl; ends = refl };
   number_as_condition = record { events_are = refl; ends = refl };
 }

@@ -2,7 +2,7 @@
 use Rattle.std.specs.Prelude.{◌≡◌, ℕ, List, [], ◌∷◌, ◌++◌, codes, Option, Some, None, Bool, true, false, ◌==◌, if◌then◌else◌}
 use Rattle.kt_tree.specs.declared.token.Span.{Span}
 use Rattle.kt_tree.specs.declared.ast.part.Sign.TheVariants.{Minus}
-use Rattle.kt_tree.specs.declared.ast.part.Arithmetic.TheVariants.{Subtract}
+use Rattle.kt_tree.specs.declared.ast.part.Arithmetic.TheVariants.{Subtract, Divide, Remainder}
 use Rattle.kt_tree.specs.declared.ast.part.Comparison.{Comparison}
 use Rattle.kt_tree.specs.declared.ast.part.Comparison.TheVariants.{Less, Greater, LessOrEqual, GreaterOrEqual}
 use Rattle.kt_tree.specs.declared.ast.part.Equality.{Equality}
@@ -14,6 +14,7 @@ use Rattle.kt_mean.specs.Frames.{Outcome}
 use Rattle.kt_mean.specs.declared.states.Value.{Value}
 use Rattle.kt_mean.specs.Evaluation.{Function, Program, println_name, print_name}
 use Rattle.kt_mean.specs.WholeRun.{whole, run_ending}
+use Rattle.kt_mean.specs.declared.states.Exception.TheVariants.{DivisionByZero}
 use Rattle.kt_mean.specs.declared.states.RunEnding.{RunEnding}
 use Rattle.kt_mean.specs.declared.states.RunEnding.TheVariants as end
 
@@ -48,8 +49,17 @@ all_printed (e ∷ es) = First' (println e) (all_printed es)
 abbrev most : Tree
 most = int 2147483647
 
+abbrev minus : Tree → Tree
+minus e = Operation' mark (Sign' Minus) (First' e Empty')
+
 abbrev least : Tree
-least = Operation' mark (Arithmetic' Subtract) (both (Operation' mark (Sign' Minus) (First' most Empty')) (int 1))
+least = Operation' mark (Arithmetic' Subtract) (both (minus most) (int 1))
+
+abbrev quotient : Tree → Tree → Tree
+quotient a b = Operation' mark (Arithmetic' Divide) (both a b)
+
+abbrev rest : Tree → Tree → Tree
+rest a b = Operation' mark (Arithmetic' Remainder) (both a b)
 
 abbrev compare : Comparison → Tree → Tree → Tree
 compare o a b = Operation' mark (Compare' o) (both a b)
@@ -85,7 +95,11 @@ abbrev prints_and_holds : Function
 prints_and_holds =
     record { parameters = []; body = both (print (int 1)) (Return' mark (alone (bool true))); is_expression = false; result = Some (record { head = head.Boolean; nullable = false }) }
 
--- what `println` prints of a truth value
+-- what `println` prints
+abbrev line : (text : List ℕ) → Event
+line text = Printed (text ++ 10 ∷ [])
+
+-- of a truth value
 abbrev true_line : Event
 true_line = Printed (codes "true" ++ 10 ∷ [])
 
@@ -142,5 +156,18 @@ pub record WorkedRuns : Type 0 where
       (all_printed (equal Equal least most ∷ equal NotEqual (int 2) (Operation' mark Sum' (both (int 1) (int 1))) ∷ equal Equal (bool true) (bool false)
       ∷ equal Equal (int 1) (bool true) ∷ equal Equal (print (int 1)) (print (int 2)) ∷ [])) no_other 40
       (false_line ∷ false_line ∷ false_line ∷ false_line ∷ Printed (codes "1") ∷ Printed (codes "2") ∷ true_line ∷ []) (Some end.Done)
+  -- println(7 / 2); println(-7 / 2); println(-7 % 2); println(7 % -2); println(-2147483648 / -1); println(-2147483648 % -1)
+  pub numbers_divided : Runs
+      (all_printed (quotient (int 7) (int 2) ∷ quotient (minus (int 7)) (int 2) ∷ rest (minus (int 7)) (int 2) ∷ rest (int 7) (minus (int 2))
+      ∷ quotient least (minus (int 1)) ∷ rest least (minus (int 1)) ∷ [])) no_other 60
+      (line (codes "3") ∷ line (codes "-3") ∷ line (codes "-1") ∷ line (codes "1") ∷ line (codes "-2147483648") ∷ line (codes "0") ∷ []) (Some end.Done)
+  -- println(1); f(); println(2), where f prints 3, divides by zero and prints 4
+  pub thrown_out_of_a_call : Runs
+      (First' (println (int 1)) (both (call Empty') (println (int 2)))) (unit_function [] (First' (print (int 3)) (both (rest (int 1) (int 0)) (print (int 4))))) 30
+      (line (codes "1") ∷ Printed (codes "3") ∷ []) (Some (end.Uncaught DivisionByZero))
+  -- var x = 1; x /= 0; println(x)
+  pub thrown_before_a_store : Runs
+      (First' (Local' mark nowhere 1 (int 1)) (both (Compound' mark nowhere 1 false (Arithmetic' Divide) (alone (int 0))) (println (Name' mark nowhere 1)))) no_other 20
+      [] (Some (end.Uncaught DivisionByZero))
   -- if (1) print(1)
   pub number_as_condition : Runs (alone (if_alone (int 1) (alone (print (int 1))))) no_other 10 [] None
