@@ -5,6 +5,7 @@ use Rattle.kt_model.specs.declared.kinds.KtType.{KtType}
 use Rattle.kt_model.specs.BodyTrees.{Operation', Name', Paren', Not', And', Or', If', Declare', Local', Assign', Compound', Call', Return', Throw', Shut', Tree, Trees, Empty', First', number}
 use Rattle.kt_mean.specs.declared.states.Value.{Value}
 use Rattle.kt_mean.specs.declared.states.Value.TheVariants as value
+use Rattle.kt_mean.specs.declared.states.Way.TheVariants as way
 use Rattle.kt_mean.specs.declared.states.Limit.TheVariants as limit
 use Rattle.kt_mean.specs.Frames.{Frame, State, Ending, Gave, Left, Over, Wrong, Outcome, Run, NotWrong, ◌>>=◌, ending_after, events_after, pure, over, wrong, turned}
 use Rattle.kt_mean.specs.Evaluation.{Program, Function, choose, fits, spend, read, store, write, operated, most_calls, begun, call_end, with_values, block_from, block, asked, truth_of, truth_tree, not_tree, and_tree, or_tree, if_tree, returned, arguments_fit, invoke, limited, called, operand_or_one, tree_at, entered, eval}
@@ -69,7 +70,8 @@ limited_keeps p q k = record { keeps = λ s h. by (nat_lt s.calls most_calls) s 
 
 end_first : (f : Function) (here : Frame) (calls : ℕ) (e : Ending Value) → NotWrong (call_end f here calls e) → NotWrong e
 end_first f here calls (Gave v s) h = tt
-end_first f here calls (Left w s) h = tt
+end_first f here calls (Left (way.Return v) s) h = tt
+end_first f here calls (Left (way.Throw x) s) h = tt
 end_first f here calls (Over k) h = tt
 end_first f here calls Wrong h = h
 

@@ -110,7 +110,8 @@ module _ (p : Program) (go : Tree → Run Value) where
   -- what is right at a call's end is right before
   end_first : (f : Function) (here : Frame) (calls : ℕ) (e : Ending Value) → NotWrong (call_end f here calls e) → NotWrong e
   end_first f here calls (Gave v s) h = tt
-  end_first f here calls (Left w s) h = tt
+  end_first f here calls (Left (way.Return v) s) h = tt
+  end_first f here calls (Left (way.Throw x) s) h = tt
   end_first f here calls (Over k) h = tt
   end_first f here calls Wrong h = h
 
@@ -172,6 +173,11 @@ module _ (p : Program) (go : Tree → Run Value) where
     events = done.events;
     puts = done.puts;
     is = λ input. invoke_is f vs s b e h input ∙ ap (call_outcome f s) (done.is input) ∙ ap (λ x. record { ending = x; events = done.events }) (given_is f.result v _ (end_right f vs s b e h k input _ (done.is input)));
+  }
+  invoke_runs f vs s b out (Err (halt.Way (way.Throw x))) t e h k done = record {
+    events = done.events;
+    puts = done.puts;
+    is = λ input. invoke_is f vs s b e h input ∙ ap (call_outcome f s) (done.is input);
   }
   invoke_runs f vs s b out (Err (halt.Over l)) t e h k done = record {
     events = done.events;

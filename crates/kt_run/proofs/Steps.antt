@@ -1,7 +1,8 @@
 -- What single steps do.
-use Rattle.std.proofs.Common.{◌≡◌, ◌≢◌, ℕ, suc, ◌-◌, ◌<◌, arith, ◌==◌, pos, Bool, true, false, List, [], ◌∷◌, ◌++◌, Option, Some, None, IsSome, IfSome, MatchResult, Result, Ok, Err, refl, sym, ap, subst, ◌∙◌}
+use Rattle.std.proofs.Common.{◌≡◌, ◌≢◌, ℕ, suc, ◌-◌, ◌<◌, arith, ◌==◌, ℤ, pos, int_eq, Bool, true, false, List, [], ◌∷◌, ◌++◌, Option, Some, None, IsSome, IfSome, MatchResult, Result, Ok, Err, refl, sym, ap, subst, ◌∙◌}
 use Rattle.std.proofs.lemmas.Bool.{false≢true}
 use Rattle.kt_tree.specs.declared.ast.part.Sign.{Sign}
+use Rattle.kt_tree.specs.declared.ast.part.Arithmetic.{Arithmetic}
 use Rattle.kt_tree.specs.declared.ast.part.Arithmetic.TheVariants as arithmetic
 use Rattle.kt_model.specs.declared.uses.Named.{Named}
 use Rattle.kt_model.specs.declared.uses.Named.TheVariants as named
@@ -9,9 +10,12 @@ use Rattle.kt_model.specs.BodyTrees.{Sign', Tree}
 use Rattle.kt_outside.specs.Outside.{OutputState}
 use Rattle.kt_mean.specs.declared.states.Value.{Value}
 use Rattle.kt_mean.specs.declared.states.Value.TheVariants as value
+use Rattle.kt_mean.specs.declared.states.Exception.TheVariants.{DivisionByZero}
+use Rattle.kt_mean.specs.declared.states.Way.{Way}
+use Rattle.kt_mean.specs.declared.states.Way.TheVariants as way
 use Rattle.kt_mean.specs.declared.states.Limit.TheVariants as limit
 use Rattle.kt_mean.specs.Frames.{State, Run, NotWrong, over, pure, wrong}
-use Rattle.kt_mean.specs.Evaluation.{Program, eval, entered, choose, read, read_value, store, write, write_over, operated, truth_of, built_in, print, text_of_value, println_name, print_name}
+use Rattle.kt_mean.specs.Evaluation.{Program, eval, entered, choose, read, read_value, store, write, write_over, throws, by_divisor, arithmetic_of, operated, truth_of, built_in, print, text_of_value, println_name, print_name}
 use Rattle.kt_run.specs.declared.state.State.{State as Kept}
 use Rattle.kt_run.specs.declared.state.Halt.{Halt}
 use Rattle.kt_run.specs.declared.state.Halt.TheVariants as halt
@@ -20,8 +24,8 @@ use Rattle.kt_run.specs.declared.operators.Operator.TheVariants as operator
 use Rattle.kt_run.specs.Slots.{held}
 use Rattle.kt_run.specs.Scene.{Scene, scene, seen, Right, Runs, Quiet, Prints}
 use Rattle.kt_run.specs.Running.{name_run}
-use Rattle.kt_run.specs.Operators.{operation_of, combined, with_sign, truth_in, printed, gives, prints}
-use Rattle.kt_run.proofs.Chain.{quiet_runs, same_runs, pure_runs, memory_runs, prints_runs}
+use Rattle.kt_run.specs.Operators.{operation_of, unless_zero, calculated, combined, with_sign, truth_in, printed, gives, makes, prints}
+use Rattle.kt_run.proofs.Chain.{quiet_runs, same_runs, pure_runs, leave_runs, memory_runs, prints_runs}
 
 -- a wrong use doesn't come
 pub wrong_comes : {A : Type 0} (s : Kept) → Right (wrong {A = A}) s → ⊥
@@ -66,6 +70,18 @@ gives_some None s h = absurd (h.right [])
 pub gives_runs : (p : Run Value) (o : Option Value) (v : Value) (s : Scene) → p ≡ gives o → o ≡ Some v → Runs p s (Ok v) s
 gives_runs p o v s same e = same_runs p (gives o) s (Ok v) s same (subst (λ (x : Option Value). Runs (gives x) s (Ok v) s) (sym e) (pure_runs v s))
 
+-- what gives a value, leaves the trees around or is a wrong use
+pub makes_some : (o : Option (Result Value Way)) (s : Kept) → Right (makes o) s → IsSome o
+unfolding wrong
+makes_some (Some r) s h = refl
+makes_some None s h = absurd (h.right [])
+
+pub makes_runs : (p : Run Value) (o : Option (Result Value Way)) (v : Value) (s : Scene) → p ≡ makes o → o ≡ Some (Ok v) → Runs p s (Ok v) s
+makes_runs p o v s same e = same_runs p (makes o) s (Ok v) s same (subst (λ x. Runs (makes x) s (Ok v) s) (sym e) (pure_runs v s))
+
+pub makes_leave : (p : Run Value) (o : Option (Result Value Way)) (w : Way) (s : Scene) → p ≡ makes o → o ≡ Some (Err w) → Runs p s (Err (halt.Way w)) s
+makes_leave p o w s same e = same_runs p (makes o) s (Err (halt.Way w)) s same (subst (λ x. Runs (makes x) s (Err (halt.Way w)) s) (sym e) (leave_runs w s))
+
 none_is_some : (b : Bool) → None ≡ Some b → ⊥
 none_is_some b e = cc
 
@@ -77,32 +93,29 @@ operated_sign o value.Unit = refl
 operated_sign o (value.Bool b) = refl
 operated_sign o (value.Int k) = refl
 
-pub operated_two : (o : Operator) (a b : Value) → operated (operation_of o) (a ∷ b ∷ []) ≡ gives (combined o a b)
+divided_is : (b n : ℤ) → by_divisor b (pure (value.Int n)) ≡ makes (Some (unless_zero b n))
+divided_is b n = by (int_eq b (pos 0)) where
+  by : (is_zero : Bool) → choose is_zero (throws DivisionByZero) (pure (value.Int n)) ≡ makes (Some (choose is_zero (Err (way.Throw DivisionByZero)) (Ok (value.Int n))))
+  by true = refl
+  by false = refl
+
+calculated_is : (o : Arithmetic) (a b : ℤ) → arithmetic_of o a b ≡ makes (Some (calculated o a b))
+calculated_is arithmetic.Subtract a b = refl
+calculated_is arithmetic.Multiply a b = refl
+calculated_is arithmetic.Divide a b = divided_is b _
+calculated_is arithmetic.Remainder a b = divided_is b _
+
+pub operated_two : (o : Operator) (a b : Value) → operated (operation_of o) (a ∷ b ∷ []) ≡ makes (combined o a b)
 operated_two operator.Sum (value.Int a) (value.Int b) = refl
 operated_two operator.Sum (value.Int a) value.Unit = refl
 operated_two operator.Sum (value.Int a) (value.Bool b) = refl
 operated_two operator.Sum value.Unit b = refl
 operated_two operator.Sum (value.Bool a) b = refl
-operated_two (operator.Arithmetic arithmetic.Subtract) (value.Int a) (value.Int b) = refl
-operated_two (operator.Arithmetic arithmetic.Multiply) (value.Int a) (value.Int b) = refl
-operated_two (operator.Arithmetic arithmetic.Divide) (value.Int a) (value.Int b) = refl
-operated_two (operator.Arithmetic arithmetic.Remainder) (value.Int a) (value.Int b) = refl
-operated_two (operator.Arithmetic arithmetic.Subtract) (value.Int a) value.Unit = refl
-operated_two (operator.Arithmetic arithmetic.Subtract) (value.Int a) (value.Bool b) = refl
-operated_two (operator.Arithmetic arithmetic.Subtract) value.Unit b = refl
-operated_two (operator.Arithmetic arithmetic.Subtract) (value.Bool a) b = refl
-operated_two (operator.Arithmetic arithmetic.Multiply) (value.Int a) value.Unit = refl
-operated_two (operator.Arithmetic arithmetic.Multiply) (value.Int a) (value.Bool b) = refl
-operated_two (operator.Arithmetic arithmetic.Multiply) value.Unit b = refl
-operated_two (operator.Arithmetic arithmetic.Multiply) (value.Bool a) b = refl
-operated_two (operator.Arithmetic arithmetic.Divide) (value.Int a) value.Unit = refl
-operated_two (operator.Arithmetic arithmetic.Divide) (value.Int a) (value.Bool b) = refl
-operated_two (operator.Arithmetic arithmetic.Divide) value.Unit b = refl
-operated_two (operator.Arithmetic arithmetic.Divide) (value.Bool a) b = refl
-operated_two (operator.Arithmetic arithmetic.Remainder) (value.Int a) value.Unit = refl
-operated_two (operator.Arithmetic arithmetic.Remainder) (value.Int a) (value.Bool b) = refl
-operated_two (operator.Arithmetic arithmetic.Remainder) value.Unit b = refl
-operated_two (operator.Arithmetic arithmetic.Remainder) (value.Bool a) b = refl
+operated_two (operator.Arithmetic o) (value.Int a) (value.Int b) = calculated_is o a b
+operated_two (operator.Arithmetic o) (value.Int a) value.Unit = refl
+operated_two (operator.Arithmetic o) (value.Int a) (value.Bool b) = refl
+operated_two (operator.Arithmetic o) value.Unit b = refl
+operated_two (operator.Arithmetic o) (value.Bool a) b = refl
 operated_two (operator.Compare o) (value.Int a) (value.Int b) = refl
 operated_two (operator.Compare o) (value.Int a) value.Unit = refl
 operated_two (operator.Compare o) (value.Int a) (value.Bool b) = refl

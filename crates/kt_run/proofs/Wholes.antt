@@ -22,11 +22,12 @@ use Rattle.kt_run.specs.Scene.{Scene, scene, seen, Right, PutsSome, Runs}
 use Rattle.kt_run.specs.Running.{bare, NeverWrong, RunsWhole, RunsOn, end_told}
 use Rattle.kt_run.proofs.BareRuns.{whole_bare}
 
--- ---- nothing leaves a call
+-- ---- no `return` leaves a call
 
 abbrev Stays : Ending Value → Type 0
 Stays (Gave v s) = Unit {0}
-Stays (Left w s) = ⊥
+Stays (Left (way.Return v) s) = ⊥
+Stays (Left (way.Throw x) s) = Unit {0}
 Stays (Over k) = Unit {0}
 Stays Wrong = Unit {0}
 
@@ -41,6 +42,7 @@ ended_stays false result v s = choose_stays (is_unit result) value.Unit s
 end_stays : (f : Function) (here : Frame) (calls : ℕ) (e : Ending Value) → Stays (call_end f here calls e)
 end_stays f here calls (Gave v s) = ended_stays f.is_expression f.result v (resume here calls s)
 end_stays f here calls (Left (way.Return v) s) = choose_stays (fits f.result v) v (resume here calls s)
+end_stays f here calls (Left (way.Throw x) s) = tt
 end_stays f here calls (Over k) = tt
 end_stays f here calls Wrong = tt
 
@@ -68,7 +70,8 @@ module _ (p : Program) (go : Tree → Run Value) where
 
 ends : (e : Ending Value) → Stays e → NotWrong e → (r : RunEnding) × (run_ending e ≡ Some r)
 ends (Gave v s) stays h = (ending.Done, refl)
-ends (Left w s) stays h = absurd stays
+ends (Left (way.Return v) s) stays h = absurd stays
+ends (Left (way.Throw x) s) stays h = (ending.Uncaught x, refl)
 ends (Over k) stays h = (limit_ending k, refl)
 ends Wrong stays h = absurd h
 
@@ -103,7 +106,8 @@ at_end p steps input old new e r events is told puts = record {
 
 pub runs_on : (p : Program) (frame : List (Option Value)) (steps : ℕ) (old : OutputState) (r : Result Value Halt) (t : Scene) → held frame ≡ no_locals → NeverWrong p steps → Runs (main_call p steps) (scene (first_state frame steps) old) r t → (input : List ℕ) → RunsOn p steps input old t.out (end_told r)
 runs_on p frame steps old (Ok v) t e n h input = at_end p steps input old t.out (Gave v (seen t.state input)) ending.Done h.events (whole_is p frame steps e n input ∙ h.is input) refl h.puts
-runs_on p frame steps old (Err (halt.Way w)) t e n h input =
+runs_on p frame steps old (Err (halt.Way (way.Throw x))) t e n h input = at_end p steps input old t.out (Left (way.Throw x) (seen t.state input)) (ending.Uncaught x) h.events (whole_is p frame steps e n input ∙ h.is input) refl h.puts
+runs_on p frame steps old (Err (halt.Way (way.Return v))) t e n h input =
     absurd (subst (λ (o : Outcome Value). Stays o.ending) (h.is input) (called_stays (bare p) (eval (bare p) steps) (p.functions p.main) [] (seen (first_state frame steps) input)))
 runs_on p frame steps old (Err (halt.Over limit.Steps)) t e n h input = at_end p steps input old t.out (Over limit.Steps) ending.Steps h.events (whole_is p frame steps e n input ∙ h.is input) refl h.puts
 runs_on p frame steps old (Err (halt.Over limit.Calls)) t e n h input = at_end p steps input old t.out (Over limit.Calls) ending.Calls h.events (whole_is p frame steps e n input ∙ h.is input) refl h.puts

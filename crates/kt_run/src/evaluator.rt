@@ -110,7 +110,8 @@ impl<F> Evaluator<'_, '_, F> {
     {
         let left = self.boxed(state, out, a)?;
         let right = self.boxed(state, out, b)?;
-        Ok(combine(operator, left, right))
+        let value = combine(operator, left, right)?;
+        Ok(value)
     }
 
     // A string: its parts are evaluated; what they are joined to is not open yet.
@@ -259,7 +260,8 @@ impl<F> Evaluator<'_, '_, F> {
     {
         let old = read(state, target.local)?;
         let operand = self.operand(state, out, value)?;
-        write(state, target, combine(operator, old, operand))
+        let value = combine(operator, old, operand)?;
+        write(state, target, value)
     }
 
     // What is combined with the old value: 1 where nothing is written.

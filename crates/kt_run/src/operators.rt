@@ -1,13 +1,14 @@
 //! What is done with values. There is no answer for a wrong use: each function requires that none comes.
-ghost use Rattle.std.specs.Prelude.{◌≡◌, ◌++◌, ◌∷◌, [], Some, IsSome, IfSome};
+ghost use Rattle.std.specs.Prelude.{◌≡◌, ◌++◌, ◌∷◌, [], Some, IsSome, IfSome, int_rem};
+ghost use Rattle.std.specs.Int.{w32, int_wrapping_div};
 ghost use Rattle.kt_mean.specs.Evaluation.{text_of_value, compared, equal_by, same_value};
 ghost use Rattle.kt_outside.specs.Texts.{PutsAll};
 ghost use Rattle.kt_run.specs.Scene.{Prints};
-ghost use Rattle.kt_run.specs.Operators.{combined, with_sign, truth_in, printed};
+ghost use Rattle.kt_run.specs.Operators.{unless_zero, calculated, combined, with_sign, truth_in, printed};
 
 use crate::state::Halt;
 use itoa::Buffer;
-use kt_mean::Value;
+use kt_mean::{Exception, Value, Way};
 use kt_outside::{Output, PutFault, put_all};
 use kt_tree::ast::{Arithmetic, Comparison, Equality, Sign};
 
@@ -23,23 +24,49 @@ pub(crate) enum Operator {
     Equal(Equality),
 }
 
-/// What an operator gives. Int has 32 bits and wraps.
-pub(crate) fn combine(operator: Operator, a: Value, b: Value) -> Value
+/// What an operator gives, or what it throws. Int has 32 bits and wraps.
+pub(crate) fn combine(operator: Operator, a: Value, b: Value) -> Result<Value, Way>
     requires { IsSome (combined operator a b) }
     ensures { combined operator a b ≡ Some result }
 {
     match (operator, a, b) {
-        (Operator::Sum, Value::Int(a), Value::Int(b)) => Value::Int(a.wrapping_add(b)),
-        (Operator::Arithmetic(Arithmetic::Subtract), Value::Int(a), Value::Int(b)) => {
-            Value::Int(a.wrapping_sub(b))
-        }
-        (Operator::Arithmetic(Arithmetic::Multiply), Value::Int(a), Value::Int(b)) => {
-            Value::Int(a.wrapping_mul(b))
-        }
-        (Operator::Compare(o), Value::Int(a), Value::Int(b)) => Value::Bool(compare(o, a, b)),
-        (Operator::Equal(o), a, b) => Value::Bool(is_equal(o, a, b)),
+        (Operator::Sum, Value::Int(a), Value::Int(b)) => Ok(Value::Int(a.wrapping_add(b))),
+        (Operator::Arithmetic(o), Value::Int(a), Value::Int(b)) => calculate(o, a, b),
+        (Operator::Compare(o), Value::Int(a), Value::Int(b)) => Ok(Value::Bool(compare(o, a, b))),
+        (Operator::Equal(o), a, b) => Ok(Value::Bool(is_equal(o, a, b))),
         _ => unreachable!(),
     }
+}
+
+fn calculate(operator: Arithmetic, a: i32, b: i32) -> Result<Value, Way>
+    ensures { result ≡ calculated operator a b }
+{
+    match operator {
+        Arithmetic::Subtract => Ok(Value::Int(a.wrapping_sub(b))),
+        Arithmetic::Multiply => Ok(Value::Int(a.wrapping_mul(b))),
+        Arithmetic::Divide => divide(a, b),
+        Arithmetic::Remainder => remainder(a, b),
+    }
+}
+
+// The quotient, truncated towards zero.
+fn divide(a: i32, b: i32) -> Result<Value, Way>
+    ensures { result ≡ unless_zero b (int_wrapping_div w32 a b) }
+{
+    if b == 0 {
+        return Err(Way::Throw(Exception::DivisionByZero));
+    }
+    Ok(Value::Int(a.wrapping_div(b)))
+}
+
+// What a division leaves.
+fn remainder(a: i32, b: i32) -> Result<Value, Way>
+    ensures { result ≡ unless_zero b (int_rem a b) }
+{
+    if b == 0 {
+        return Err(Way::Throw(Exception::DivisionByZero));
+    }
+    Ok(Value::Int(a.wrapping_rem(b)))
 }
 
 fn compare(comparison: Comparison, a: i32, b: i32) -> bool

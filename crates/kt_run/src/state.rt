@@ -20,6 +20,17 @@ pub(crate) enum Halt {
     NoMemory,
 }
 
+impl From<Way> for Halt {
+    ghost use Rattle.std.specs.Prelude.{◌≡◌};
+    ghost use Rattle.kt_run.specs.declared.state.Halt.TheVariants as halt;
+
+    ghost from_gives = { λ way h. h ≡ halt.Way way };
+
+    fn from(way: Way) -> Halt {
+        Halt::Way(way)
+    }
+}
+
 impl From<AllocError> for Halt {
     ghost use Rattle.std.specs.Prelude.{◌≡◌};
     ghost use Rattle.kt_run.specs.declared.state.Halt.TheVariants as halt;

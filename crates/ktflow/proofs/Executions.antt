@@ -75,6 +75,7 @@ module _ (source : List ℕ) (file : File) (uses : Resolved) (main : ℕ) (a : I
         executes_run old new end.Done h = runs_whole old new ending.Done h
         executes_run old new end.Steps h = runs_whole old new ending.Steps h
         executes_run old new end.Calls h = runs_whole old new ending.Calls h
+        executes_run old new (end.Uncaught e) h = runs_whole old new (ending.Uncaught e) h
         executes_run old new end.WriteFault h =
             let e = whole_ends program steps input (never_wrong input) in
             record {

@@ -6,9 +6,9 @@ use Rattle.ktflow.specs.Course.{Course, Ending, Usage, Refused, ended, line_of, 
 use Rattle.ktflow.specs.Language.{IsRefused}
 use Rattle.ktflow.specs.Program.{HasCourse, usage, refused, ran, request_of, counted}
 use Rattle.ktflow.specs.Invoking.{Outside, HasShape, Performs, Invocation}
-use Rattle.ktflow.specs.Clauses.{Tells, IsAnswer, AnswersCourse, IsProgram, MeansEnding, MeansRefusal, MeansUsage, IsSourceFault, IsInputFault, HasStatuses, DoesNotRun, HasOrder, is_done, is_limit}
+use Rattle.ktflow.specs.Clauses.{Tells, IsAnswer, AnswersCourse, IsProgram, MeansEnding, MeansRefusal, MeansUsage, IsSourceFault, IsInputFault, HasStatuses, DoesNotRun, HasOrder, is_done, is_limit, is_uncaught}
 use Rattle.ktflow.specs.declared.ending.Stop.{Stop}
-use Rattle.ktflow.proofs.Endings.{run_not_refused, run_not_usage, zero_is_done, done_is_zero, nine_is_limit, limit_is_nine}
+use Rattle.ktflow.proofs.Endings.{run_not_refused, run_not_usage, zero_is_done, done_is_zero, nine_is_limit, limit_is_nine, seven_is_uncaught, uncaught_is_seven}
 use Rattle.ktflow.proofs.Courses.{file_shape, told_file, told_input, told_left, to_told, from_told}
 use Rattle.ktflow.proofs.OneCourse.{has_one_course}
 use Rattle.ktflow.proofs.ByStop.{ended_answers, fetch_failed, take_failed, put_failed, memory_shape, usage_ends, does_not_run, leaves_input, no_fetch, ends_at_source, ends_at_input, ends_at_output, ends_at_report, is_quiet}
@@ -46,6 +46,9 @@ one_answer = record { source = λ e. omega (arith, e); input = λ e. omega (arit
 
 two_answer : IsAnswer 2
 two_answer = record { source = λ e. omega (arith, e); input = λ e. omega (arith, e); output = λ e. omega (arith, e); memory = λ e. omega (arith, e) }
+
+seven_answer : IsAnswer 7
+seven_answer = record { source = λ e. omega (arith, e); input = λ e. omega (arith, e); output = λ e. omega (arith, e); memory = λ e. omega (arith, e) }
 
 nine_answer : IsAnswer 9
 nine_answer = record { source = λ e. omega (arith, e); input = λ e. omega (arith, e); output = λ e. omega (arith, e); memory = λ e. omega (arith, e) }
@@ -156,6 +159,7 @@ statuses_from words before after status i = record {
   input_fault = λ e. input_fault_from words before after status i e;
   output_fault = λ e. put_failed words before after i.stop status i.performs i.reports e;
   memory = λ e. memory_shape words before after i.stop status i.performs i.reports e;
+  uncaught = ending_from 7 is_uncaught words before after status seven_answer seven_is_uncaught uncaught_is_seven (program_from words before after status i);
   limit = ending_from 9 is_limit words before after status nine_answer nine_is_limit limit_is_nine (program_from words before after status i);
 }
 

@@ -4,7 +4,7 @@ ghost use Rattle.ktflow.specs.Course.{line_of, status_of, line_of_run, status_of
 ghost use Rattle.ktflow.specs.Executing.{ending_of};
 ghost use Rattle.ktflow.specs.Invoking.{line_of_stop, status_of_stop};
 
-use kt_mean::RunEnding;
+use kt_mean::{Exception, RunEnding};
 
 /// How a call ends.
 #[derive(Debug, Drop)]
@@ -39,6 +39,9 @@ fn line_of_ending(ending: RunEnding) -> &'static [u8]
         RunEnding::Done => b"",
         RunEnding::Steps => b"limit steps\n",
         RunEnding::Calls => b"limit calls\n",
+        RunEnding::Uncaught(Exception::DivisionByZero) => {
+            b"uncaught ArithmeticException: / by zero\n"
+        }
     }
 }
 
@@ -48,6 +51,7 @@ fn status_of_ending(ending: RunEnding) -> u8
     match ending {
         RunEnding::Done => 0,
         RunEnding::Steps | RunEnding::Calls => 9,
+        RunEnding::Uncaught(_) => 7,
     }
 }
 

@@ -2,7 +2,7 @@ use Rattle.std.proofs.Common.{Ok}
 use Rattle.kt_mean.specs.declared.states.Value.{Value}
 use Rattle.kt_run.proofs.Chain.{first_right, next_right, then_runs, exit_by, same_right}
 use Rattle.kt_run.specs.Scene.{scene}
-use Rattle.kt_run.proofs.Steps.{gives_some, gives_runs, operated_two}
+use Rattle.kt_run.proofs.Steps.{makes_some, makes_runs, makes_leave, operated_two}
 use Rattle.kt_run.proofs.evaluator.Evaluator.binary.Goals as goal
 
 pub boxed-requires : goal.boxed-requires
@@ -20,13 +20,20 @@ returns-in_err-right g c =
 
 pub combine-requires : goal.combine-requires
 combine-requires g c =
-    gives_some _ c.boxed-2.new.state
+    makes_some _ c.boxed-2.new.state
     (same_right _ _ _ (operated_two c.args.operator c.in_ok-left.left c.in_ok-right.right)
     (next_right _ _ _ _ _ (next_right _ _ _ _ _ c.requires.right c.in_ok-left.ensures) c.in_ok-right.ensures))
+
+pub returns-in_err-value : goal.returns-in_err-value
+returns-in_err-value g c =
+    let here = scene c.boxed-2.new.state (g.O.Output.state c.boxed-2.new.out) in
+    then_runs {B = Value} _ _ _ _ _ _ here c.in_ok-left.ensures
+    (then_runs {B = Value} _ _ _ _ here _ here c.in_ok-right.ensures
+    (makes_leave _ _ _ here (operated_two c.args.operator c.in_ok-left.left c.in_ok-right.right) c.in_err-value.ensures))
 
 pub returns : goal.returns
 returns g c =
     let here = scene c.boxed-2.new.state (g.O.Output.state c.boxed-2.new.out) in
-    then_runs {B = Value} _ _ _ _ _ (Ok c.combine.result) here c.in_ok-left.ensures
-    (then_runs {B = Value} _ _ _ _ here (Ok c.combine.result) here c.in_ok-right.ensures
-    (gives_runs _ _ c.combine.result here (operated_two c.args.operator c.in_ok-left.left c.in_ok-right.right) c.combine.ensures))
+    then_runs {B = Value} _ _ _ _ _ (Ok c.in_ok-value.value) here c.in_ok-left.ensures
+    (then_runs {B = Value} _ _ _ _ here (Ok c.in_ok-value.value) here c.in_ok-right.ensures
+    (makes_runs _ _ c.in_ok-value.value here (operated_two c.args.operator c.in_ok-left.left c.in_ok-right.right) c.in_ok-value.ensures))

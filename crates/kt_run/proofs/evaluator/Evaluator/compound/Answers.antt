@@ -2,7 +2,7 @@ use Rattle.std.proofs.Common.{Ok, Err}
 use Rattle.kt_mean.specs.declared.states.Value.{Value}
 use Rattle.kt_run.proofs.Chain.{first_right, next_right, quiet_right, then_runs, exit_by, quiet_runs, same_right}
 use Rattle.kt_run.specs.Scene.{scene}
-use Rattle.kt_run.proofs.Steps.{gives_some, gives_runs, operated_two}
+use Rattle.kt_run.proofs.Steps.{makes_some, makes_runs, makes_leave, operated_two}
 use Rattle.kt_run.proofs.evaluator.Evaluator.compound.Goals as goal
 
 pub read-requires : goal.read-requires
@@ -23,16 +23,24 @@ returns-in_err-operand g c =
 
 pub combine-requires : goal.combine-requires
 combine-requires g c =
-    gives_some _ c.operand.new.state
+    makes_some _ c.operand.new.state
     (same_right _ _ _ (operated_two c.args.operator c.in_ok-old.old c.in_ok-operand.operand)
     (first_right _ _ _ (next_right _ _ _ _ _ (quiet_right _ _ _ _ _ c.requires.right c.in_ok-old.ensures) c.in_ok-operand.ensures)))
+
+pub returns-in_err-value : goal.returns-in_err-value
+returns-in_err-value g c =
+    let out = g.O.Output.state c.args.out.now in
+    let here = scene c.operand.new.state (g.O.Output.state c.operand.new.out) in
+    then_runs {B = Value} _ _ _ _ _ _ here (quiet_runs _ _ (Ok c.in_ok-old.old) _ out c.in_ok-old.ensures)
+    (then_runs {B = Value} _ _ _ _ here _ here c.in_ok-operand.ensures
+    (exit_by {B = Value} _ _ _ _ _ _ c.from_residual-in_err-value.ensures.1 (makes_leave _ _ _ here (operated_two c.args.operator c.in_ok-old.old c.in_ok-operand.operand) c.in_err-value.ensures)))
 
 pub write-requires : goal.write-requires
 write-requires g c =
     let here = scene c.operand.new.state (g.O.Output.state c.operand.new.out) in
     record {
-      right = next_right _ _ c.combine.result here here (next_right _ _ _ _ _ (quiet_right _ _ _ _ _ c.requires.right c.in_ok-old.ensures) c.in_ok-operand.ensures)
-          (gives_runs _ _ c.combine.result here (operated_two c.args.operator c.in_ok-old.old c.in_ok-operand.operand) c.combine.ensures);
+      right = next_right _ _ c.in_ok-value.value here here (next_right _ _ _ _ _ (quiet_right _ _ _ _ _ c.requires.right c.in_ok-old.ensures) c.in_ok-operand.ensures)
+          (makes_runs _ _ c.in_ok-value.value here (operated_two c.args.operator c.in_ok-old.old c.in_ok-operand.operand) c.in_ok-value.ensures);
     }
 
 pub returns : goal.returns
@@ -42,5 +50,5 @@ returns g c =
     let end = scene c.write.new.state here.out in
     then_runs {B = Value} _ _ _ _ _ c.write.result end (quiet_runs _ _ (Ok c.in_ok-old.old) _ out c.in_ok-old.ensures)
     (then_runs {B = Value} _ _ _ _ here c.write.result end c.in_ok-operand.ensures
-    (then_runs {B = Value} _ _ _ here here c.write.result end (gives_runs _ _ c.combine.result here (operated_two c.args.operator c.in_ok-old.old c.in_ok-operand.operand) c.combine.ensures)
+    (then_runs {B = Value} _ _ _ here here c.write.result end (makes_runs _ _ c.in_ok-value.value here (operated_two c.args.operator c.in_ok-old.old c.in_ok-operand.operand) c.in_ok-value.ensures)
     (quiet_runs _ c.operand.new.state c.write.result c.write.new.state here.out c.write.ensures)))
