@@ -1,5 +1,5 @@
 -- The laws of soundness: `if` and `return`.
-use Rattle.std.proofs.Common.{◌≡◌, Bool, true, false, Option, Some, None, List, [], ◌∷◌, ◌++◌, Contains, inl, inr, refl, sym, ap, subst, ◌∙◌}
+use Rattle.std.proofs.Common.{◌≡◌, Bool, true, false, Option, Some, None, List, [], ◌∷◌, ◌++◌, Contains, inl, inr, refl, sym, subst}
 use Rattle.kt_model.specs.BodyTrees.{Mark, Tree, Trees, Empty', First', If', Return'}
 use Rattle.kt_model.specs.ControlFlow.{FlowContext, Exits, Then, Branch, in_of, out_of, enter, entry_of, leave_edges, on, edges, all_edges}
 use Rattle.kt_model.specs.NodePaths.{assigned_after}
@@ -9,22 +9,23 @@ use Rattle.kt_model.specs.declared.kinds.KtType.{KtType}
 use Rattle.kt_model.proofs.ListLemmas.{Has, has_left, has_right}
 use Rattle.kt_typing.specs.declared.claims.Way.{Way}
 use Rattle.kt_typing.specs.declared.claims.Way.TheVariants.{Unvalued, Plain, Checked}
+use Rattle.kt_typing.specs.declared.claims.Claim.{Claim}
 use Rattle.kt_typing.specs.declared.claims.Claim.TheVariants as claim
-use Rattle.kt_typing.specs.Typing.{Ways, Each, TypeContext, LocalTypes, Judgement, Judgements, have_types, last_of, branch_way, branch_ways, joined_type, joined_claim, branched, closed, count, boolean, unit, is_unit, unit_if, bare_return, return_claim, value_way, judged, all_judged}
+use Rattle.kt_typing.specs.Typing.{Ways, Each, TypeContext, LocalTypes, Judgement, Judgements, have_types, last_of, branch_way, branch_ways, joined_claim, branched, closed, count, boolean, unit, is_unit, unit_if, bare_return, return_claim, value_way, judged, all_judged}
 use Rattle.kt_mean.specs.declared.states.Value.{Value}
 use Rattle.kt_mean.specs.declared.states.Value.TheVariants as value
 use Rattle.kt_mean.specs.declared.states.Way.TheVariants.{Return}
 use Rattle.kt_mean.specs.Frames.{State, Ending, Gave, Left, Over, Wrong, ◌>>=◌, leave}
 use Rattle.kt_mean.specs.Evaluation.{Program, fits, block, if_tree, returned, tree_at}
 use Rattle.kt_sound.proofs.TypingSteps.{none_in, Known, Kept, kept_trees}
-use Rattle.kt_sound.proofs.NoFinding.{HasType, parts_none, closed_found, closed_stood, return_decided, joined_decided, types_last, types_branched, typed_tree, typed_trees}
+use Rattle.kt_sound.proofs.NoFinding.{HasType, parts_none, closed_stood, return_decided, joined_decided, types_last, types_branched, typed_tree, typed_trees}
 use Rattle.kt_sound.proofs.ValueTypes.{Lies, unit_is}
 use Rattle.kt_sound.proofs.Operations.{breaks-gives}
 use Rattle.kt_sound.proofs.BodyStanding.{Place, Stands, Ready, Within, Accepted, AllAccepted, Gives, AllGive, Post, Eval, KeepsAt, Keeps}
 use Rattle.kt_sound.proofs.BodySteps.{within_left, within_right, ready, quiet, enters, leaves, values_post, block_post}
 use Rattle.kt_sound.proofs.BodyLaws.{Setting}
 use Rattle.kt_sound.proofs.ConditionLaws.{choice_post}
-use Rattle.kt_sound.proofs.ValuedBranches.{valued_post, joins, joined_gives, as_given}
+use Rattle.kt_sound.proofs.ValuedBranches.{valued_post, joins, whole_gives, as_given}
 
 -- ---- `if`
 
@@ -118,55 +119,62 @@ if_post {p} {cx} g go keeps context exits way found locals n c a b s w st asked 
     (λ s' r. branch_end g context t exits way found (block p go a s').ending (λ x i. refl) w4 (at_true s' (within_left within_true (within_false ++ lasts) w2) r))
     (λ s' r. branch_end g context t exits way found (block p go b s').ending (λ x i. refl) w4 (at_false s' (within_left within_false lasts w3) r))
 
--- an `if` whose value is taken
-valued_if : {p : Program} {cx : TypeContext} → Setting p cx → (g : Place p cx) (go : Eval) → Keeps p cx go → (context : FlowContext) (exits : Exits) (way : Way) (locals : LocalTypes) (n : Mark) (c : Tree) (a b : Trees) (s : State)
-    → (let ways_true = branch_ways (branch_way way) a in
-    let ways_false = branch_ways (branch_way way) b in
-    let parts = branched (condition g ways_true ways_false locals c a b) (first g ways_true ways_false locals c a b) (second g ways_true ways_false locals c a b) in
-    let says = joined_claim cx.classes way n (last_of (first g ways_true ways_false locals c a b).each_found) (last_of (second g ways_true ways_false locals c a b).each_found) in
-    Within g.edges (edges context exits (If' n c a b)) → Stands g (in_of context.copy (If' n c a b)) s → Branches g ways_true ways_false locals c a b → (closed cx Plain n parts says).findings ≡ []
-    → Post g exits way (closed cx Plain n parts says).found (if_tree p go c a b s).ending)
-valued_if {p} {cx} set g go keeps context exits way locals n c a b s w st all none =
-    let ways_true = branch_ways (branch_way way) a in
-    let ways_false = branch_ways (branch_way way) b in
-    let asked = condition g ways_true ways_false locals c a b in
-    let one = first g ways_true ways_false locals c a b in
-    let other = second g ways_true ways_false locals c a b in
-    let parts = branched asked one other in
-    let says = joined_claim cx.classes way n (last_of one.each_found) (last_of other.each_found) in
-    let found = (closed cx Plain n parts says).found in
-    let out = out_of context.copy (If' n c a b) ∷ [] in
-    let types = types_branched asked one other all.is_typed all.types_true all.types_false in
-    let decided = joined_decided cx.classes way n _ _ (types_last one.each_found all.types_true) (types_last other.each_found all.types_false) in
-    let h = closed_stood cx Plain n parts says types decided none in
-    let j = joins cx.classes way n (last_of one.each_found) (last_of other.each_found) h.type h.gives in
-    let is : Some (joined_type cx.classes way j.first j.second) ≡ found = ap (λ d. Some d) {x = joined_type cx.classes way j.first j.second} {y = h.type} j.is ∙ sym (closed_found cx Plain n parts says types ∙ h.found) in
-    if_post g go keeps context exits way found locals n c a b s w st all.asked
-    (λ s' w' r. as_given g (Then out) way (branch_way way) found (Some j.first) (block p go a s').ending
-    (λ v l. subst (λ o. Gives way o v) is (joined_gives cx.classes set.built_in way j.first j.second v (inl l)))
-    (valued_post go keeps a g context (branch_way way) asked.locals out value.Unit s' j.first j.is_first w' all.if_true r))
-    (λ s' w' r. as_given g (Then out) way (branch_way way) found (Some j.second) (block p go b s').ending
-    (λ v l. subst (λ o. Gives way o v) is (joined_gives cx.classes set.built_in way j.first j.second v (inr l)))
-    (valued_post go keeps b g context (branch_way way) one.locals out value.Unit s' j.second j.is_second w' all.if_false r))
+-- an `if` whose value is taken: its branches, and what is said of it
+module _ {p : Program} {cx : TypeContext} (g : Place p cx) (way : Way) (locals : LocalTypes) (n : Mark) (c : Tree) (a b : Trees) where
+  abbrev ways_true : Ways
+  ways_true = branch_ways (branch_way way) a
+
+  abbrev ways_false : Ways
+  ways_false = branch_ways (branch_way way) b
+
+  abbrev found_true : List (Option KtType)
+  found_true = (first g ways_true ways_false locals c a b).each_found
+
+  abbrev found_false : List (Option KtType)
+  found_false = (second g ways_true ways_false locals c a b).each_found
+
+  abbrev parts : Judgements
+  parts = branched (condition g ways_true ways_false locals c a b) (first g ways_true ways_false locals c a b) (second g ways_true ways_false locals c a b)
+
+  abbrev says : Claim
+  says = joined_claim cx.classes way n (last_of found_true) (last_of found_false)
+
+  abbrev whole : Judgement
+  whole = closed cx Plain n parts says
+
+  valued_if : Setting p cx → (go : Eval) → Keeps p cx go → (context : FlowContext) (exits : Exits) (s : State) → Within g.edges (edges context exits (If' n c a b)) → Stands g (in_of context.copy (If' n c a b)) s
+      → Branches g ways_true ways_false locals c a b → whole.findings ≡ [] → Post g exits way whole.found (if_tree p go c a b s).ending
+  valued_if set go keeps context exits s w st all none =
+      let out = out_of context.copy (If' n c a b) ∷ [] in
+      let asked = condition g ways_true ways_false locals c a b in
+      let one = first g ways_true ways_false locals c a b in
+      let other = second g ways_true ways_false locals c a b in
+      let types = types_branched asked one other all.is_typed all.types_true all.types_false in
+      let decided = joined_decided cx.classes way n (last_of found_true) (last_of found_false) (types_last found_true all.types_true) (types_last found_false all.types_false) in
+      let h = closed_stood cx Plain n parts says types decided none in
+      let j = joins cx.classes way n (last_of found_true) (last_of found_false) h.type h.gives in
+      let gives = whole_gives cx set.built_in way n parts (last_of found_true) (last_of found_false) types h j in
+      if_post g go keeps context exits way whole.found locals n c a b s w st all.asked
+      (λ s' w' r. as_given g (Then out) way (branch_way way) whole.found (Some j.first) (block p go a s').ending (λ v l. gives v (inl l))
+      (valued_post go keeps a g context (branch_way way) asked.locals out value.Unit s' j.first j.is_first w' all.if_true r))
+      (λ s' w' r. as_given g (Then out) way (branch_way way) whole.found (Some j.second) (block p go b s').ending (λ v l. gives v (inr l))
+      (valued_post go keeps b g context (branch_way way) one.locals out value.Unit s' j.second j.is_second w' all.if_false r))
 
 pub law_if : (p : Program) (cx : TypeContext) → Setting p cx → (go : Eval) → Keeps p cx go → (n : Mark) (c : Tree) (a b : Trees) → KeepsAt p cx (tree_at p go) (If' n c a b)
 unfolding judged trees_in Has
 law_if p cx set go keeps n c a b g context exits Unvalued locals s w acc st =
-    let parts = branched (condition g (Each Unvalued) (Each Unvalued) locals c a b) (first g (Each Unvalued) (Each Unvalued) locals c a b) (second g (Each Unvalued) (Each Unvalued) locals c a b) in
-    let found = (closed cx Unvalued n parts (claim.Gives unit)).found in
+    let each = Each Unvalued in
+    let inner = branched (condition g each each locals c a b) (first g each each locals c a b) (second g each each locals c a b) in
+    let found = (closed cx Unvalued n inner (claim.Gives unit)).found in
     let out = out_of context.copy (If' n c a b) ∷ [] in
-    let all = branches g (Each Unvalued) (Each Unvalued) locals c a b acc.known (parts_none cx Unvalued n parts (claim.Gives unit) acc.none) acc.covered (λ u i. acc.inside u (inr i)) in
+    let all = branches g each each locals c a b acc.known (parts_none cx Unvalued n inner (claim.Gives unit) acc.none) acc.covered (λ u i. acc.inside u (inr i)) in
     if_post g go keeps context exits Unvalued found locals n c a b s w st all.asked
-    (λ s' w' r. as_given g (Then out) Unvalued Unvalued found None (block p go a s').ending (λ v l. tt) (block_post go keeps a g context (Each Unvalued) _ out value.Unit s' w' all.if_true r))
-    (λ s' w' r. as_given g (Then out) Unvalued Unvalued found None (block p go b s').ending (λ v l. tt) (block_post go keeps b g context (Each Unvalued) _ out value.Unit s' w' all.if_false r))
+    (λ s' w' r. as_given g (Then out) Unvalued Unvalued found None (block p go a s').ending (λ v l. tt) (block_post go keeps a g context each (condition g each each locals c a b).locals out value.Unit s' w' all.if_true r))
+    (λ s' w' r. as_given g (Then out) Unvalued Unvalued found None (block p go b s').ending (λ v l. tt) (block_post go keeps b g context each (first g each each locals c a b).locals out value.Unit s' w' all.if_false r))
 law_if p cx set go keeps n c a b g context exits way locals s w acc st =
-    let ways_true = branch_ways (branch_way way) a in
-    let ways_false = branch_ways (branch_way way) b in
-    let one = first g ways_true ways_false locals c a b in
-    let other = second g ways_true ways_false locals c a b in
-    let says = joined_claim cx.classes way n (last_of one.each_found) (last_of other.each_found) in
-    let none = parts_none cx Plain n (branched (condition g ways_true ways_false locals c a b) one other) says acc.none in
-    valued_if set g go keeps context exits way locals n c a b s w st (branches g ways_true ways_false locals c a b acc.known none acc.covered (λ u i. acc.inside u (inr i))) acc.none
+    let none = parts_none cx Plain n (parts g way locals n c a b) (says g way locals n c a b) acc.none in
+    let all = branches g (ways_true g way locals n c a b) (ways_false g way locals n c a b) locals c a b acc.known none acc.covered (λ u i. acc.inside u (inr i)) in
+    valued_if g way locals n c a b set go keeps context exits s w st all acc.none
 
 -- ---- `return`
 

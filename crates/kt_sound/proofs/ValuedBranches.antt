@@ -1,5 +1,5 @@
 -- The branches of an `if` whose value is taken: the value of each is that of its last statement, and lies in the type of the whole.
-use Rattle.std.proofs.Common.{◌≡◌, ◌⊎◌, Option, Some, None, List, [], ◌∷◌, inl, inr, refl, subst}
+use Rattle.std.proofs.Common.{◌≡◌, ◌⊎◌, true, Option, Some, None, List, [], ◌∷◌, inl, inr, refl, sym, ap, subst, ◌∙◌}
 use Rattle.kt_model.specs.BodyTrees.{Mark, Tree, Trees, Empty', First'}
 use Rattle.kt_model.specs.Classes.{Classes}
 use Rattle.kt_model.specs.ControlFlow.{FlowContext, Exits, Node, Then, entry_of, edges, all_edges}
@@ -7,13 +7,14 @@ use Rattle.kt_model.specs.declared.kinds.KtType.{KtType}
 use Rattle.kt_typing.specs.declared.claims.Way.{Way}
 use Rattle.kt_typing.specs.declared.claims.Way.TheVariants.{Unvalued, Plain, Inferred, Checked}
 use Rattle.kt_typing.specs.declared.claims.Claim.TheVariants as claim
-use Rattle.kt_typing.specs.Typing.{TypeContext, LocalTypes, first_of, last_of, branch_way, branch_ways, joined_type, joined_claim, judged, all_judged}
+use Rattle.kt_typing.specs.Typing.{TypeContext, LocalTypes, Judgements, have_types, first_of, last_of, branch_way, branch_ways, joined_type, joined_claim, closed, judged, all_judged}
 use Rattle.kt_mean.specs.declared.states.Value.{Value}
 use Rattle.kt_mean.specs.declared.states.Way.TheVariants.{Return}
 use Rattle.kt_mean.specs.Frames.{State, Ending, Gave, Left, Over, Wrong, ◌>>=◌, pure}
 use Rattle.kt_mean.specs.Evaluation.{Program, block_from}
 use Rattle.kt_sound.specs.BodySoundness.{HasBuiltInClasses}
 use Rattle.kt_sound.proofs.TypingSteps.{none-some}
+use Rattle.kt_sound.proofs.NoFinding.{Stood, closed_found}
 use Rattle.kt_sound.proofs.UpperTypes.{lies_upper}
 use Rattle.kt_sound.proofs.Operations.{gives-gives, breaks-gives}
 use Rattle.kt_sound.proofs.BodyStanding.{Place, Ready, Within, AllAccepted, Gives, Post, Eval, Keeps}
@@ -74,13 +75,20 @@ joins classes way n (Some a ∷ firsts) [] d e = absurd (breaks-gives _ _ d e)
 joins classes way n (Some a ∷ firsts) (None ∷ seconds) d e = absurd (lacks-gives d e)
 joins classes way n (Some a ∷ firsts) (Some b ∷ seconds) d e = record { first = a; second = b; is_first = refl; is_second = refl; is = gives-gives (joined_type classes way a b) d e }
 
--- a value of one branch is one of the whole
-pub joined_gives : (classes : Classes) → HasBuiltInClasses classes → (way : Way) (a b : KtType) (v : Value) → Gives (branch_way way) (Some a) v ⊎ Gives (branch_way way) (Some b) v → Gives way (Some (joined_type classes way a b)) v
+-- a value of one branch is one of the whole, by its type
+joined_gives : (classes : Classes) → HasBuiltInClasses classes → (way : Way) (a b : KtType) (v : Value) → Gives (branch_way way) (Some a) v ⊎ Gives (branch_way way) (Some b) v → Gives way (Some (joined_type classes way a b)) v
 joined_gives classes h Unvalued a b v l = tt
 joined_gives classes h Plain a b v l = lies_upper classes h v a b l
 joined_gives classes h Inferred a b v l = lies_upper classes h v a b l
 joined_gives classes h (Checked t) a b v (inl l) = (l.1, l.1)
 joined_gives classes h (Checked t) a b v (inr l) = (l.1, l.1)
+
+pub whole_gives : (cx : TypeContext) → HasBuiltInClasses cx.classes → (way : Way) (n : Mark) (parts : Judgements) (firsts seconds : List (Option KtType)) → have_types parts.each_found ≡ true
+    → (h : Stood cx.classes Plain n.span (joined_claim cx.classes way n firsts seconds)) (j : Joins cx.classes way firsts seconds h.type) (v : Value)
+    → Gives (branch_way way) (Some j.first) v ⊎ Gives (branch_way way) (Some j.second) v → Gives way (closed cx Plain n parts (joined_claim cx.classes way n firsts seconds)).found v
+whole_gives cx built_in way n parts firsts seconds types h j v l =
+    let is = closed_found cx Plain n parts (joined_claim cx.classes way n firsts seconds) types ∙ h.found in
+    subst (λ o. Gives way o v) (ap (λ d. Some d) j.is ∙ sym is) (joined_gives cx.classes built_in way j.first j.second v l)
 
 -- ---- ends
 
