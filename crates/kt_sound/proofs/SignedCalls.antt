@@ -7,7 +7,7 @@ use Rattle.kt_model.specs.TreesWithin.{trees_in, all_trees_in, called_by}
 use Rattle.kt_typing.specs.declared.claims.Way.{Way}
 use Rattle.kt_typing.specs.declared.claims.Way.TheVariants.{Unvalued, Plain, Inferred, Checked}
 use Rattle.kt_typing.specs.declared.claims.Claim.TheVariants.{Gives}
-use Rattle.kt_typing.specs.Typing.{Ways, Each, first_way, rest_ways, TypeContext, LocalTypes, Signature, alone, in_front, initialised, look_up, count, call_demand, operation_demand, operator_of, is_text, first_of, apart, boolean, unit, branched, return_claim, declaration_claim, assign_claim, compound_claim, old_value, value_way, known_type, type_or_none, left_way, right_way, inside, claimed, finding_in, judged, all_judged}
+use Rattle.kt_typing.specs.Typing.{Ways, Each, first_way, rest_ways, TypeContext, LocalTypes, Signature, alone, in_front, initialised, look_up, count, call_demand, operation_demand, operator_of, is_text, first_of, apart, boolean, unit, branched, last_of, branch_way, branch_ways, joined_claim, return_claim, declaration_claim, assign_claim, compound_claim, old_value, value_way, known_type, type_or_none, left_way, right_way, inside, claimed, finding_in, judged, all_judged}
 use Rattle.kt_sound.proofs.TypingSteps.{none_in, some-some, none-some, Known}
 use Rattle.kt_sound.proofs.NoFinding.{some_finding, not_open_none, parts_none, claim_none, typed_tree, typed_trees}
 
@@ -60,7 +60,19 @@ mutual
       no_call cx (If' n c a b) (trees_in c ++ (all_trees_in a ++ all_trees_in b)) refl
       (All-append (IsSigned cx) (trees_in c) (all_trees_in a ++ all_trees_in b) (signed_tree cx (Checked boolean) locals c h none.0)
       (All-append (IsSigned cx) (all_trees_in a) (all_trees_in b) (signed_trees cx (Each Unvalued) condition.locals a asked.known both.0) (signed_trees cx (Each Unvalued) first.locals b one.known both.1)))
-  signed_tree cx way locals (If' n c a b) h e = absurd (not_open_none cx way n locals e)
+  signed_tree cx way locals (If' n c a b) h e =
+      let condition = judged cx (Checked boolean) locals c in
+      let first = all_judged cx (branch_ways (branch_way way) a) condition.locals a in
+      let second = all_judged cx (branch_ways (branch_way way) b) first.locals b in
+      let claim = joined_claim cx.classes way n (last_of first.each_found) (last_of second.each_found) in
+      let none = none_in condition.findings (first.findings ++ second.findings) (parts_none cx Plain n (branched condition first second) claim e) in
+      let both = none_in first.findings second.findings none.1 in
+      let asked = typed_tree cx (Checked boolean) locals c h none.0 in
+      let one = typed_trees cx (branch_ways (branch_way way) a) condition.locals a asked.known both.0 in
+      no_call cx (If' n c a b) (trees_in c ++ (all_trees_in a ++ all_trees_in b)) refl
+      (All-append (IsSigned cx) (trees_in c) (all_trees_in a ++ all_trees_in b) (signed_tree cx (Checked boolean) locals c h none.0)
+      (All-append (IsSigned cx) (all_trees_in a) (all_trees_in b) (signed_trees cx (branch_ways (branch_way way) a) condition.locals a asked.known both.0)
+      (signed_trees cx (branch_ways (branch_way way) b) first.locals b one.known both.1)))
   signed_tree cx way locals (Declare' n x) h e = no_call cx (Declare' n x) [] refl (All-nil (IsSigned cx))
   signed_tree cx way locals (Local' n at x t) h e =
       let before = look_up locals x in
