@@ -3,6 +3,7 @@ pub mod NoFinding
 pub mod ValueTypes
 pub mod BodyStanding
 pub mod BodySteps
+pub mod BodyEnds
 pub mod Operations
 pub mod BodyLaws
 pub mod LocalLaws
