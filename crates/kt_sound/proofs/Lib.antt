@@ -4,6 +4,7 @@ pub mod ValueTypes
 pub mod UpperTypes
 pub mod BodyStanding
 pub mod BodySteps
+pub mod BodyEnds
 pub mod Operations
 pub mod BodyLaws
 pub mod LocalLaws
