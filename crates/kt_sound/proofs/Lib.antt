@@ -1,6 +1,7 @@
 pub mod TypingSteps
 pub mod NoFinding
 pub mod ValueTypes
+pub mod UpperTypes
 pub mod BodyStanding
 pub mod BodySteps
 pub mod BodyEnds
@@ -9,6 +10,7 @@ pub mod BodyLaws
 pub mod LocalLaws
 pub mod CompoundLaw
 pub mod ConditionLaws
+pub mod ValuedBranches
 pub mod BranchLaws
 pub mod ParameterLaws
 pub mod CallLaw
