@@ -7,7 +7,7 @@ use Rattle.kt_tree.specs.declared.ast.declaration.File.{File}
 use Rattle.kt_tree.specs.declared.ast.declaration.FunctionDecl.{FunctionDecl}
 use Rattle.kt_model.specs.BodyTrees.{BuiltIn', Tree, Operation', Call'}
 use Rattle.kt_model.specs.Bodies.{function_trees}
-use Rattle.kt_model.specs.NameUses.{Resolved, named_at, parameters_at, declaration_type, function_place}
+use Rattle.kt_model.specs.NameUses.{Resolved, named_at, parameters_at, declaration_type}
 use Rattle.kt_model.specs.Outlines.{function_result}
 use Rattle.kt_model.specs.Scopes.{IsResolved, is_nothing_head, is_nothing}
 use Rattle.kt_model.specs.TopNames.{top_names}

@@ -1,7 +1,6 @@
 -- Where no rule on members is violated, each function of a file has a body.
-use Rattle.std.proofs.Common.{◌≡◌, ℕ, ◌||◌, ◌&&◌, not, Bool, true, false, List, [], ◌∷◌, ◌++◌, Option, Some, None, IsSome, slice_get, inl, inr, refl, sym, subst}
+use Rattle.std.proofs.Common.{◌≡◌, ℕ, ◌||◌, Bool, true, false, List, [], ◌∷◌, ◌++◌, Option, Some, None, IsSome, slice_get, inl, inr, refl}
 use Rattle.std.specs.List.{flat_map}
-use Rattle.std.specs.Option.{is_none}
 use Rattle.std.proofs.lemmas.Bool.{false≢true}
 use Rattle.kt_tree.specs.declared.ast.declaration.File.{File}
 use Rattle.kt_tree.specs.declared.ast.declaration.FunctionBody.{FunctionBody}
@@ -9,7 +8,6 @@ use Rattle.kt_tree.specs.declared.ast.declaration.FunctionDecl.{FunctionDecl}
 use Rattle.kt_tree.specs.declared.ast.declaration.Modifier.{Modifier}
 use Rattle.kt_tree.specs.declared.ast.declaration.ModifierKind.{ModifierKind}
 use Rattle.kt_tree.specs.declared.ast.declaration.ModifierKind.TheVariants as modifier
-use Rattle.kt_model.specs.Classes.{written}
 use Rattle.kt_model.specs.DeclarationRules.{where_, same_modifier}
 use Rattle.kt_model.specs.MemberRules.{is_abstract_word, is_misplaced, modifiers, misfits_function, lacks_result, local_type, rules_from, function_rules, misdeclared, IsMisdeclared}
 use Rattle.kt_model.specs.Outlines.{outlines_of}
