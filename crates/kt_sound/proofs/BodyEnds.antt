@@ -1,11 +1,11 @@
 -- Where a body ends. Of the graph of a body the jumps of `return` are left out: a frame that came to the end of what is left stood at the `out` of the last
--- tree, or there is no tree.
-use Rattle.std.proofs.Common.{◌≡◌, ◌⊎◌, ℕ, Bool, true, false, Some, List, [], ◌∷◌, ◌++◌, Contains, inl, inr, refl, ap}
+-- tree, which can be followed, or there is no tree.
+use Rattle.std.proofs.Common.{◌≡◌, ◌⊎◌, ℕ, Bool, true, false, Some, List, [], ◌∷◌, ◌++◌, Contains, inl, inr, refl, ap, subst}
 use Rattle.std.specs.Prelude.{⊤}
 use Rattle.std.specs.List.{All}
 use Rattle.std.proofs.lemmas.List.Elements.{All-nil, All-cons, All-append, All-contains}
 use Rattle.kt_model.specs.BodyPaths.{IsNodePath}
-use Rattle.kt_model.specs.BodyTrees.{Tree, Trees, Empty', First', Operation', Name', Paren', Not', And', Or', If', Declare', Local', Assign', Compound', Call', Return', Throw', Shut', number}
+use Rattle.kt_model.specs.BodyTrees.{Tree, Trees, Empty', First', Operation', Name', Paren', Not', And', Or', If', Declare', Local', Assign', Compound', Call', Return', Throw', Shut'}
 use Rattle.kt_model.specs.ControlFlow.{Node, Edge, Exits, Then, Branch, in_of, out_of, assume, on, enter, entry_of, returns_of, if_returns, leave_edges, on_true_of, on_false_of, inside_of, test_edges, edges, all_edges, entry_node, params_node, end_node, outside, in_body, body_edges}
 use Rattle.kt_model.specs.declared.graph.Tag.TheVariants as tag
 use Rattle.kt_model.proofs.ListLemmas.{Has, contains_has, has_contains}
@@ -36,10 +36,7 @@ all_within es = record { each = each_among es es (λ e i. has_contains es e i) }
 each_has : (all es : List Edge) (e : Edge) → EachEdge all es → Has es e → Contains all e
 unfolding Has
 each_has all [] e w h = absurd h
-each_has all (d ∷ es) e w (inl same) = subst_contains same w.0
-  where
-    subst_contains : d ≡ e → Contains all d → Contains all e
-    subst_contains same h = rw⁻¹ same h
+each_has all (d ∷ es) e w (inl same) = subst (λ z. Contains all z) same w.0
 each_has all (d ∷ es) e w (inr h) = each_has all es e w.1 h
 
 module _ {all : List Edge} where
@@ -215,14 +212,14 @@ returns_inner true t = out_inner t
 returns_inner false t = tt
 
 -- What holds of each edge that doesn't lead to the end.
-module _ (P : Edge → Type 0) (inner : (n m : Node) → IsInner m → P (n, m)) where
+module _ (P : Edge → Type 0) (otherwise : (n m : Node) → IsInner m → P (n, m)) where
   abbrev Leads : Node → List Node → Type 0
   Leads n [] = ⊤
   Leads n (m ∷ ms) = P (n, m) × Leads n ms
 
   inner_leads : (n : Node) (ms : List Node) → AreInner ms → Leads n ms
   inner_leads n [] h = tt
-  inner_leads n (m ∷ ms) h = (inner n m h.0, inner_leads n ms h.1)
+  inner_leads n (m ∷ ms) h = (otherwise n m h.0, inner_leads n ms h.1)
 
   on_all : (n : Node) (ms : List Node) → Leads n ms → All P (on outside n ms)
   unfolding on

@@ -1,5 +1,5 @@
 -- All laws together, and from the entry of each body.
-use Rattle.std.proofs.Common.{IsSome, position, ◌<◌, length, nat_lt, cond, arith, ◌≡◌, ◌⊎◌, ℕ, zero, suc, ◌-◌, ◌==◌, Bool, true, false, if◌then◌else◌, Option, Some, None, option_map, slice_get, List, [], ◌∷◌, ◌++◌, Contains, inl, inr, refl, sym, ap, subst, ◌∙◌, true≢false}
+use Rattle.std.proofs.Common.{IsSome, position, ◌<◌, length, nat_lt, cond, arith, ◌≡◌, ◌⊎◌, ℕ, zero, suc, ◌-◌, ◌==◌, Bool, true, false, if◌then◌else◌, Option, Some, None, option_map, slice_get, List, [], ◌∷◌, ◌++◌, inl, inr, refl, sym, ap, subst, ◌∙◌, true≢false}
 use Rattle.std.specs.List.{position_or_len}
 use Rattle.std.proofs.lemmas.Bool.{false≢true, ltb-true}
 use Rattle.kt_tree.specs.declared.ast.declaration.File.{File}
@@ -16,7 +16,7 @@ use Rattle.kt_typing.specs.declared.claims.Way.{Way}
 use Rattle.kt_typing.specs.declared.claims.Way.TheVariants.{Checked}
 use Rattle.kt_model.specs.declared.uses.Owner.TheVariants as owner
 use Rattle.kt_typing.specs.Typing.{Ways, Each, TypeContext, LocalTypes, Signature, Judgements, unit, is_unit, function_signature, open_signature, signature_of, context_of, parameter_types, value_way, body_ways, function_ways, body_judged, judged, all_judged}
-use Rattle.kt_model.proofs.ListLemmas.{Has, has_contains}
+use Rattle.kt_model.proofs.ListLemmas.{has_contains}
 use Rattle.kt_mean.specs.declared.states.Value.{Value}
 use Rattle.kt_mean.specs.declared.states.Limit.TheVariants as limit
 use Rattle.kt_mean.specs.Frames.{Frame, State, Ending, Gave, Left, Over, Wrong, Run, ◌>>=◌, pure, over, wrong, ending_after, NotWrong}
@@ -31,7 +31,7 @@ use Rattle.kt_sound.specs.BodySoundness.{IsAcceptedBody, IsAcceptedProgram, Bodi
 use Rattle.kt_sound.proofs.TypingSteps.{none-some, some-some, known_parameters, written_parameters, written_trees}
 use Rattle.kt_sound.proofs.NoFinding.{not_open_none}
 use Rattle.kt_sound.proofs.ValueTypes.{unit_is}
-use Rattle.kt_sound.proofs.BodyStanding.{Place, Stands, EachEdge, Within, Post, Eval, Keeps, with_result, KeepsEach}
+use Rattle.kt_sound.proofs.BodyStanding.{Place, Stands, Post, Eval, Keeps, with_result, KeepsEach}
 use Rattle.kt_sound.proofs.BodySteps.{within_left, within_right, leads_of, ready}
 use Rattle.kt_sound.proofs.BodyEnds.{plain_edges, plain_walked, all_within, end_reached}
 use Rattle.kt_sound.proofs.BodyLaws.{Setting, law_operation, law_name, law_paren}

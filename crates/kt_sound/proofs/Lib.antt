@@ -19,9 +19,9 @@ pub mod NamedCalls
 pub mod NamedTrees
 pub mod OneFile
 pub mod DeadOfFile
-pub mod SignedCalls
 pub mod Declared
 pub mod TypedParameters
 pub mod ResolvedBodies
+pub mod WrittenBodies
 pub mod MainOfFile
 pub mod AcceptedFile
