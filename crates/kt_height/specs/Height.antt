@@ -3,11 +3,12 @@
 --
 -- The shapes are this project's own. A left side that is a name or a member behind `.` is no tree: its parts are those of the
 -- assignment.
-use Rattle.std.specs.Prelude.{ℕ, Bool, true, false, max, if◌then◌else◌, List, [], ◌∷◌, map, Option, Some, None, option_map}
+use Rattle.std.specs.Prelude.{◌≡◌, ◌⊎◌, ℕ, Bool, true, false, max, if◌then◌else◌, List, [], ◌∷◌, map, Option, Some, None, option_map}
 use Rattle.kt_tree.specs.declared.ast.part.Access.{Access}
 use Rattle.kt_tree.specs.declared.ast.part.Access.TheVariants as access
 use Rattle.kt_tree.specs.declared.ast.body.Expr.{Expr}
 use Rattle.kt_tree.specs.declared.ast.body.ExprKind.{ExprKind}
+use Rattle.kt_tree.specs.declared.ast.body.ExprKind.TheVariants as kind
 use Rattle.kt_tree.specs.declared.ast.body.Stmt.{Stmt}
 use Rattle.kt_tree.specs.declared.ast.body.Block.{Block}
 use Rattle.kt_tree.specs.declared.ast.body.Branch.{Branch}
@@ -158,3 +159,10 @@ when_branch_height = fold-WhenBranch ℕ ℕ Parts ℕ ℕ ℕ ℕ Parts ℕ ℕ
 
 unfoldable pub expr_height : Expr → ℕ
 expr_height e = whole (expr_parts e)
+
+-- what has branches: an `if`, a `when` or a `try`
+abbrev pub IsBranching : ExprKind → Type 0
+IsBranching k =
+    ((condition : Expr) × (first : Branch) × (otherwise : Option Branch) × k ≡ kind.If condition first otherwise)
+    ⊎ ((subject : Option Subject) × (branches : List WhenBranch) × k ≡ kind.When subject branches)
+    ⊎ ((body : Block) × (catches : List Catch) × (last : Option Block) × k ≡ kind.Try body catches last)

@@ -1,7 +1,7 @@
 //! The walk over the trees of a tree. Each function of the cycle gives the height of a tree, or the greatest height of the trees
 //! right within what is no tree.
 ghost use Rattle.std.specs.Prelude.{◌≡◌, map, option_map};
-ghost use Rattle.kt_height.specs.Height.{expr_parts, kind_parts, expr_height, stmt_height, lambda_height, block_height, branch_height, piece_height, condition_height, catch_height, subject_height, when_branch_height, greatest, height_if, on_left};
+ghost use Rattle.kt_height.specs.Height.{IsBranching, expr_parts, kind_parts, expr_height, stmt_height, lambda_height, block_height, branch_height, piece_height, condition_height, catch_height, subject_height, when_branch_height, greatest, height_if, on_left};
 ghost use Rattle.kt_tree.specs.Derives as spec;
 
 use kt_tree::ast::{
@@ -52,13 +52,8 @@ fn of_kind(kind: &ExprKind) -> u32
     ensures { result ≡ (kind_parts kind.now).height }
 {
     match kind {
-        ExprKind::Int(_)
-        | ExprKind::Bool(_)
-        | ExprKind::Null
-        | ExprKind::This
-        | ExprKind::Name(_)
-        | ExprKind::Break
-        | ExprKind::Continue => 0,
+        ExprKind::Int(_) | ExprKind::Bool(_) | ExprKind::Name(_) => 0,
+        ExprKind::Null | ExprKind::This | ExprKind::Break | ExprKind::Continue => 0,
         ExprKind::Template(pieces) => of_pieces(pieces.as_slice()),
         ExprKind::Paren(e)
         | ExprKind::NotNull(e)
@@ -88,6 +83,17 @@ fn of_kind(kind: &ExprKind) -> u32
             arguments,
             ..
         } => of_expr(receiver.get()).max(of_exprs(arguments.as_slice())),
+        ExprKind::If { .. } | ExprKind::When { .. } | ExprKind::Try { .. } => { of_branching(kind) }
+    }
+}
+
+/// The greatest height of the parts of an `if`, a `when` or a `try`.
+#[cycle(heights)]
+fn of_branching(kind: &ExprKind) -> u32
+    requires { IsBranching kind.now }
+    ensures { result ≡ (kind_parts kind.now).height }
+{
+    match kind {
         ExprKind::If {
             condition,
             then,
@@ -105,6 +111,7 @@ fn of_kind(kind: &ExprKind) -> u32
         } => of_block(body.get())
             .max(of_catches(catches.as_slice()))
             .max(of_block_if(finally)),
+        _ => unreachable!(),
     }
 }
 

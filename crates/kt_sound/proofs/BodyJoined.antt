@@ -1,5 +1,5 @@
 -- All laws together, and from the entry of each body.
-use Rattle.std.proofs.Common.{IsSome, position, ◌<◌, length, nat_lt, cond, arith, ◌≡◌, ◌⊎◌, ℕ, zero, suc, ◌-◌, ◌==◌, Bool, true, false, if◌then◌else◌, Option, Some, None, option_map, slice_get, List, [], ◌∷◌, ◌++◌, Contains, inl, inr, refl, sym, ap, subst, ◌∙◌, true≢false}
+use Rattle.std.proofs.Common.{IsSome, position, ◌<◌, length, nat_lt, cond, arith, ◌≡◌, ◌⊎◌, ℕ, zero, suc, ◌-◌, ◌==◌, Bool, true, false, if◌then◌else◌, Option, Some, None, option_map, slice_get, List, [], ◌∷◌, ◌++◌, inl, inr, refl, sym, ap, subst, ◌∙◌, true≢false}
 use Rattle.std.specs.List.{position_or_len}
 use Rattle.std.proofs.lemmas.Bool.{false≢true, ltb-true}
 use Rattle.kt_tree.specs.declared.ast.declaration.File.{File}
@@ -10,13 +10,13 @@ use Rattle.kt_model.specs.Classes.{Classes}
 use Rattle.kt_model.specs.NameUses.{Resolved, named_at, parameters_at, declaration_type, function_place}
 use Rattle.kt_model.specs.Bodies.{function_trees, body_trees_of}
 use Rattle.kt_model.specs.BodyTrees.{Tree, Trees, Empty', First', expr_tree, Operation', Name', Paren', Not', And', Or', If', Declare', Local', Assign', Compound', Call', Return', Throw', Shut', number}
-use Rattle.kt_model.specs.ControlFlow.{Node, Edge, Exits, in_of, all_edges, entry_of, entry_node, params_node, end_node, on, outside, in_body, body_edges}
+use Rattle.kt_model.specs.ControlFlow.{Node, Edge, Exits, in_of, all_edges, entry_of, entry_node, params_node, end_node, on, outside, body_edges}
 use Rattle.kt_model.specs.declared.kinds.KtType.{KtType}
 use Rattle.kt_typing.specs.declared.claims.Way.{Way}
 use Rattle.kt_typing.specs.declared.claims.Way.TheVariants.{Checked}
 use Rattle.kt_model.specs.declared.uses.Owner.TheVariants as owner
 use Rattle.kt_typing.specs.Typing.{Ways, Each, TypeContext, LocalTypes, Signature, Judgements, unit, is_unit, function_signature, open_signature, signature_of, context_of, parameter_types, value_way, body_ways, function_ways, body_judged, judged, all_judged}
-use Rattle.kt_model.proofs.ListLemmas.{Has, has_contains}
+use Rattle.kt_model.proofs.ListLemmas.{has_contains}
 use Rattle.kt_mean.specs.declared.states.Value.{Value}
 use Rattle.kt_mean.specs.declared.states.Limit.TheVariants as limit
 use Rattle.kt_mean.specs.Frames.{Frame, State, Ending, Gave, Left, Over, Wrong, Run, ◌>>=◌, pure, over, wrong, ending_after, NotWrong}
@@ -31,8 +31,9 @@ use Rattle.kt_sound.specs.BodySoundness.{IsAcceptedBody, IsAcceptedProgram, Bodi
 use Rattle.kt_sound.proofs.TypingSteps.{none-some, some-some, known_parameters, written_parameters, written_trees}
 use Rattle.kt_sound.proofs.NoFinding.{not_open_none}
 use Rattle.kt_sound.proofs.ValueTypes.{unit_is}
-use Rattle.kt_sound.proofs.BodyStanding.{Place, Stands, EachEdge, Within, Post, Eval, Keeps, with_result, KeepsEach}
+use Rattle.kt_sound.proofs.BodyStanding.{Place, Stands, Post, Eval, Keeps, with_result, KeepsEach}
 use Rattle.kt_sound.proofs.BodySteps.{within_left, within_right, leads_of, ready}
+use Rattle.kt_sound.proofs.BodyEnds.{plain_edges, plain_walked, all_within, end_reached}
 use Rattle.kt_sound.proofs.BodyLaws.{Setting, law_operation, law_name, law_paren}
 use Rattle.kt_sound.proofs.ConditionLaws.{law_not, law_and, law_or}
 use Rattle.kt_sound.proofs.BranchLaws.{law_if, law_return}
@@ -80,10 +81,10 @@ spent_post g exits way found r s false h = h
 -- what a call of each function of the program needs
 abbrev Callees : (p : Program) (cx : TypeContext) → Type 0
 Callees p cx = (place : ℕ) (f : Function) (s : Signature) → p.functions place ≡ Some f → cx.signature place ≡ Some s
-    → Callee p cx f × (s ≡ function_signature cx.written f.parameters unit)
+    → Callee p cx f s.result × (s ≡ function_signature cx.written f.parameters s.result)
 
 calls_keep : (p : Program) (cx : TypeContext) → Callees p cx → (go : Eval) → KeepsEach p cx go → CallsKeep p cx go
-calls_keep p cx callees go keeps place f s e i = let c = callees place f s e i in record { signature = c.1; post = callee_post go keeps f c.0 }
+calls_keep p cx callees go keeps place f s e i = let c = callees place f s e i in record { result = c.0.result; signature = c.1; post = callee_post go keeps f s.result c.0 }
 
 setting_of : (p : Program) (cx : TypeContext) → Setting p cx → (result : Option KtType) → Setting p (with_result cx result)
 setting_of p cx set result = record { built_in = set.built_in; written = set.written }
@@ -104,26 +105,26 @@ keeps_eval p cx set callees (suc depth) result t g context exits way locals s w 
 
 -- ---- from the entry of a body
 
-each_among : (all es : List Edge) → ((e : Edge) → Has es e → Contains all e) → EachEdge all es
-unfolding Has
-each_among all [] h = tt
-each_among all (e ∷ es) h = (h e (inl refl), each_among all es (λ d i. h d (inr i)))
-
-all_within : (es : List Edge) → Within es es
-all_within es = record { each = each_among es es (λ e i. has_contains es e i) }
-
--- what can be called: a function whose result is `Unit`
+-- what can be called: a function that has a result
 pub record Open (written : ℕ → Option KtType) (parameters : List ℕ) (result : Option KtType) (s : Signature) : Type 0 where
-  pub unit_result : result ≡ Some unit
-  pub signature : s ≡ function_signature written parameters unit
+  pub result_is : result ≡ Some s.result
+  pub signature : s ≡ function_signature written parameters s.result
 
-pub open_is : (written : ℕ → Option KtType) (parameters : List ℕ) (result : Option KtType) (s : Signature) → open_signature written parameters result ≡ Some s → Open written parameters result s
+open_is : (written : ℕ → Option KtType) (parameters : List ℕ) (result : Option KtType) (s : Signature) → open_signature written parameters result ≡ Some s → Open written parameters result s
 open_is written parameters None s e = absurd (none-some s e)
-open_is written parameters (Some t) s e = by (is_unit t) refl e
+open_is written parameters (Some t) s e =
+    let same = some-some (function_signature written parameters t) s e in
+    let result = ap (λ (z : Signature). z.result) same in
+    record { result_is = ap (λ u. Some u) result; signature = sym same ∙ ap (λ u. function_signature written parameters u) result }
+
+-- whether a result is `Unit` is settled
+is_unit_result : (result : Option KtType) → ((result ≡ Some unit → ⊥) → ⊥) → result ≡ Some unit
+is_unit_result None h = absurd (h (λ e. none-some unit e))
+is_unit_result (Some t) h = by (is_unit t) refl
   where
-    by : (b : Bool) → is_unit t ≡ b → (if b then Some (function_signature written parameters unit) else None) ≡ Some s → Open written parameters (Some t) s
-    by true i j = record { unit_result = ap (λ z. Some z) (unit_is t.head t.nullable i); signature = sym (some-some _ s j) }
-    by false i j = absurd (none-some s j)
+    by : (b : Bool) → is_unit t ≡ b → Some t ≡ Some unit
+    by true i = ap (λ z. Some z) (unit_is t.head t.nullable i)
+    by false i = absurd (h (λ e. false≢true (sym i ∙ ap is_unit (some-some t unit e))))
 
 -- ---- the functions of a program
 
@@ -155,7 +156,11 @@ module _ (file : File) (classes : Classes) (uses : Resolved) (p : Program) (a : 
       ap (λ o. all_judged (context_at place) (function_ways (declaration_type uses (function_place place)) o) (types_of place) (function_trees (named_at uses) o)) e
 
   abbrev edges_of : ℕ → FunctionDecl → List Edge
-  edges_of place d = body_edges (parameters_of place) (trees_of d)
+  edges_of place d = plain_edges (parameters_of place) (trees_of d)
+
+  -- a path among them is one of the body
+  walked_of : (place : ℕ) (d : FunctionDecl) (ns : List Node) → IsNodePath (edges_of place d) ns → IsNodePath (body_edges (parameters_of place) (trees_of d)) ns
+  walked_of place d ns h = plain_walked (parameters_of place) (trees_of d) ns h
 
   functions_are : (place : ℕ) → p.functions place ≡ function_at file uses place
   functions_are place = ap (λ (q : Program). q.functions place) a.is_program.program
@@ -164,7 +169,7 @@ module _ (file : File) (classes : Classes) (uses : Resolved) (p : Program) (a : 
   written_are x = ap (λ (q : Program). q.written x) a.is_program.program
 
   -- a tree that is entered along a path is not marked as dead
-  alive_at : (place : ℕ) (d : FunctionDecl) → slice_get file.functions place ≡ Some d → (n : Node) (path : List Node) → IsNodePath (edges_of place d) (n ∷ path) → n.tag ≡ In
+  alive_at : (place : ℕ) (d : FunctionDecl) → slice_get file.functions place ≡ Some d → (n : Node) (path : List Node) → IsNodePath (body_edges (parameters_of place) (trees_of d)) (n ∷ path) → n.tag ≡ In
       → (b : Bool) → p.dead n.tree ≡ b → b ≡ false
   alive_at place d e n path walked tag false i = refl
   alive_at place d e n path walked tag true i =
@@ -177,22 +182,26 @@ module _ (file : File) (classes : Classes) (uses : Resolved) (p : Program) (a : 
     edges = edges_of place d;
     body = trees_of d;
     locals = (all_judged (context_at place) (ways_of place d) (types_of place) (trees_of d)).locals;
-    fine = accepted.fine;
-    alive = λ n path walked tag. alive_at place d e n path walked tag (p.dead n.tree) refl;
+    fine = record {
+      reads = λ t x n path i is same effect walked. accepted.fine.reads t x n path i is same effect (walked_of place d (n ∷ path) walked);
+      assigns = λ t x k n path i is same effect walked. accepted.fine.assigns t x k n path i is same effect (walked_of place d (n ∷ path) walked);
+    };
+    alive = λ n path walked tag. alive_at place d e n path (walked_of place d (n ∷ path) walked) tag (p.dead n.tree) refl;
     calls = accepted.resolved.calls;
+    stops = accepted.resolved.stops;
     returns = accepted.resolved.returns;
     as_written = written_trees (context_at place) (ways_of place d) (types_of place) (trees_of d) (written_parameters (context_at place) [] (parameters_of place) (λ x t w e. absurd (none-some (Some t) e)));
   }
 
-  form_of : (body : Option FunctionBody) (result : Option KtType) → result ≡ Some unit
-      → (is_expression body ≡ false) ⊎ ((e : Tree) × ((body_trees_of (named_at uses) body ≡ First' e Empty') × (body_ways result body ≡ Each (Checked unit))))
-  form_of None result e = inl refl
-  form_of (Some (written.Expr t)) result e = inr (expr_tree (named_at uses) t, (refl, ap (λ o. Each (value_way o)) e))
-  form_of (Some (written.Block contract block)) result e = inl refl
+  form_of : (body : Option FunctionBody) (result : Option KtType) (t : KtType) → result ≡ Some t
+      → (is_expression body ≡ false) ⊎ ((e : Tree) × ((body_trees_of (named_at uses) body ≡ First' e Empty') × (body_ways result body ≡ Each (Checked t))))
+  form_of None result t e = inl refl
+  form_of (Some (written.Expr x)) result t e = inr (expr_tree (named_at uses) x, (refl, ap (λ o. Each (value_way o)) e))
+  form_of (Some (written.Block contract block)) result t e = inl refl
 
   callee_of : (place : ℕ) (d : FunctionDecl) (s : Signature) → slice_get file.functions place ≡ Some d
       → Open (declaration_type uses) (parameters_of place) (declaration_type uses (function_place place)) s
-      → IsAcceptedBody file classes uses p place (function_of uses place d) → Callee p context (function_of uses place d)
+      → IsAcceptedBody file classes uses p place (function_of uses place d) → Callee p context (function_of uses place d) s.result
   unfolding place_of
   callee_of place d s e can accepted =
       let here = place_of place d e accepted in
@@ -200,13 +209,13 @@ module _ (file : File) (classes : Classes) (uses : Resolved) (p : Program) (a : 
       let all = all_within (edges_of place d) in
       let first = on outside entry_node (params ∷ []) in
       let second = on outside params (entry_of 0 (end_node ∷ []) (trees_of d)) in
-      let third = all_edges in_body (end_node ∷ []) (trees_of d) in
+      let third = all_edges outside (end_node ∷ []) (trees_of d) in
       let rest = within_right first (second ++ third) all in
       record {
         place = here;
         ways = ways_of place d;
         types = types_of place;
-        result = can.unit_result;
+        result = can.result_is;
         within = within_right second third rest;
         begins = λ vs st fit.
             let at_params : Stands here params (begun (function_of uses place d) vs st) = record {
@@ -222,19 +231,21 @@ module _ (file : File) (classes : Classes) (uses : Resolved) (p : Program) (a : 
           covered = λ x u i. i;
           inside = λ u i. has_contains (all_trees_in (trees_of d)) u i;
         };
-        form = form_of d.body (declaration_type uses (function_place place)) can.unit_result;
+        ends = λ st there block_form. is_unit_result (declaration_type uses (function_place place))
+            (λ other. accepted.ends block_form other (end_reached (parameters_of place) (trees_of d) there.at there.stands.path there.stands.is_path there.leads.0));
+        form = form_of d.body (declaration_type uses (function_place place)) s.result can.result_is;
       }
 
   callees_of : Callees p context
   unfolding signature_of
   callees_of place f s e i = by (slice_get file.functions place) refl
     where
-      by : (o : Option FunctionDecl) → slice_get file.functions place ≡ o → Callee p context f × (s ≡ function_signature (declaration_type uses) f.parameters unit)
+      by : (o : Option FunctionDecl) → slice_get file.functions place ≡ o → Callee p context f s.result × (s ≡ function_signature (declaration_type uses) f.parameters s.result)
       by None g = absurd (none-some f (sym (functions_are place ∙ ap (λ z. option_map (function_of uses place) z) g) ∙ e))
       by (Some d) g =
           let same : function_of uses place d ≡ f = some-some (function_of uses place d) f (sym (functions_are place ∙ ap (λ z. option_map (function_of uses place) z) g) ∙ e) in
           let can = open_is (declaration_type uses) (parameters_of place) (declaration_type uses (function_place place)) s i in
-          subst (λ z. Callee p context z × (s ≡ function_signature (declaration_type uses) z.parameters unit)) same
+          subst (λ z. Callee p context z s.result × (s ≡ function_signature (declaration_type uses) z.parameters s.result)) same
           (callee_of place d s g can (subst (λ z. IsAcceptedBody file classes uses p place z) (sym same) (a.bodies place f (sym (functions_are place) ∙ e))), can.signature)
 
 -- ---- a whole run
@@ -262,11 +273,11 @@ has_main file classes uses p a =
     let there = some_mapped (function_of uses main) (slice_get file.functions main) (there_is file.functions main (found_within _ file.functions main a.is_program.is_main)) in
     subst (λ (q : Program). IsSome (q.functions q.main)) (sym a.is_program.program) there
 
-not_wrong : (here : Frame) (e : Ending Value) → CallPost here e → NotWrong e
-not_wrong here (Gave v s) h = tt
-not_wrong here (Left k s) h = tt
-not_wrong here (Over l) h = tt
-not_wrong here Wrong h = h
+not_wrong : (d : KtType) (here : Frame) (e : Ending Value) → CallPost d here e → NotWrong e
+not_wrong d here (Gave v s) h = tt
+not_wrong d here (Left k s) h = tt
+not_wrong d here (Over l) h = tt
+not_wrong d here Wrong h = h
 
 -- of no parameters there is no value
 none_fit : (written : ℕ → Option KtType) (xs : List ℕ) → length xs ≡ 0 → arguments_fit written xs [] ≡ true
@@ -282,4 +293,4 @@ bodies_never file classes uses p steps input a =
     let kept = calls_keep p cx callees (eval p steps) (keeps_eval p cx set callees steps) p.main f.0 a.main.signature f.1 a.main.is in
     let fit = none_fit p.written f.0.parameters (sym (ap (λ (s : Signature). s.most) kept.signature) ∙ a.main.takes_nothing) in
     called_ends (λ (e : Ending Value). NotWrong e) p (eval p steps) (p.functions p.main) f.0 [] (start steps input) f.1 fit tt
-    (not_wrong (start steps input).here (invoke p (eval p steps) f.0 [] (start steps input)).ending (kept.post [] (start steps input) fit))
+    (not_wrong a.main.signature.result (start steps input).here (invoke p (eval p steps) f.0 [] (start steps input)).ending (kept.post [] (start steps input) fit))

@@ -8,13 +8,13 @@ use Rattle.kt_model.specs.declared.graph.Variable.TheVariants.{Local}
 use Rattle.kt_model.specs.declared.kinds.KtType.{KtType}
 use Rattle.kt_typing.specs.declared.claims.Way.{Way}
 use Rattle.kt_typing.specs.declared.claims.Way.TheVariants.{Unvalued, Plain, Inferred, Checked}
-use Rattle.kt_typing.specs.Typing.{TypeContext, LocalTypes, Ways, first_way, rest_ways, look_up, judged, all_judged}
+use Rattle.kt_typing.specs.Typing.{TypeContext, LocalTypes, Ways, first_way, rest_ways, nothing, look_up, judged, all_judged}
 use Rattle.kt_model.proofs.ListLemmas.{Has}
 use Rattle.kt_mean.specs.declared.states.Value.{Value}
 use Rattle.kt_mean.specs.declared.states.Value.TheVariants as value
 use Rattle.kt_mean.specs.declared.states.Way.TheVariants.{Return}
 use Rattle.kt_mean.specs.Frames.{Frame, State, Ending, Gave, Left, Over, Wrong, Run}
-use Rattle.kt_mean.specs.Evaluation.{Program, fits}
+use Rattle.kt_mean.specs.Evaluation.{Function, Program, fits}
 use Rattle.kt_model.specs.TreesWithin.{trees_in, all_trees_in, called_by, returns_at}
 use Rattle.kt_model.specs.BodyPaths.{IsNodePath}
 use Rattle.kt_sound.specs.FlowOfBody.{IsFine}
@@ -33,7 +33,8 @@ pub record Place (p : Program) (cx : TypeContext) : Type 0 where
   pub fine : IsFine edges body
   pub alive : (n : Node) (path : List Node) → IsNodePath edges (n ∷ path) → n.tag ≡ In → p.dead n.tree ≡ false
   pub calls : (t : Tree) (f : ℕ) → Contains (all_trees_in body) t → called_by t ≡ Some f → IsSome (p.functions f)
-  pub returns : (t : Tree) → Contains (all_trees_in body) t → returns_at t ≡ true
+  pub stops : (t : Tree) (f : ℕ) (callee : Function) → Contains (all_trees_in body) t → called_by t ≡ Some f → p.functions f ≡ Some callee → returns_at t ≡ false → callee.result ≡ Some nothing
+  pub returns : (t : Tree) → Contains (all_trees_in body) t → called_by t ≡ None → returns_at t ≡ true
   pub as_written : AsWritten cx.written locals
 
 -- The frame agrees with the path along which it came, and each value lies in the type of its local.

@@ -1,5 +1,5 @@
 -- The laws of soundness: `if` and `return`.
-use Rattle.std.proofs.Common.{◌≡◌, Bool, true, false, Option, Some, None, List, [], ◌∷◌, ◌++◌, Contains, inr, refl, sym, subst}
+use Rattle.std.proofs.Common.{◌≡◌, Bool, true, false, Option, Some, None, List, [], ◌∷◌, ◌++◌, Contains, inl, inr, refl, sym, subst}
 use Rattle.kt_model.specs.BodyTrees.{Mark, Tree, Trees, Empty', First', If', Return'}
 use Rattle.kt_model.specs.ControlFlow.{FlowContext, Exits, Then, Branch, in_of, out_of, enter, entry_of, leave_edges, on, edges, all_edges}
 use Rattle.kt_model.specs.NodePaths.{assigned_after}
@@ -8,105 +8,173 @@ use Rattle.kt_model.specs.declared.graph.Variable.{Variable}
 use Rattle.kt_model.specs.declared.kinds.KtType.{KtType}
 use Rattle.kt_model.proofs.ListLemmas.{Has, has_left, has_right}
 use Rattle.kt_typing.specs.declared.claims.Way.{Way}
-use Rattle.kt_typing.specs.declared.claims.Way.TheVariants.{Unvalued, Checked}
+use Rattle.kt_typing.specs.declared.claims.Way.TheVariants.{Unvalued, Plain, Checked}
+use Rattle.kt_typing.specs.declared.claims.Claim.{Claim}
 use Rattle.kt_typing.specs.declared.claims.Claim.TheVariants as claim
-use Rattle.kt_typing.specs.Typing.{Each, TypeContext, LocalTypes, Judgement, Judgements, branched, closed, count, boolean, unit, is_unit, unit_if, bare_return, return_claim, value_way, judged, all_judged}
+use Rattle.kt_typing.specs.Typing.{Ways, Each, TypeContext, LocalTypes, Judgement, Judgements, have_types, last_of, branch_way, branch_ways, joined_claim, branched, closed, count, boolean, unit, is_unit, unit_if, bare_return, return_claim, value_way, judged, all_judged}
 use Rattle.kt_mean.specs.declared.states.Value.{Value}
 use Rattle.kt_mean.specs.declared.states.Value.TheVariants as value
 use Rattle.kt_mean.specs.declared.states.Way.TheVariants.{Return}
 use Rattle.kt_mean.specs.Frames.{State, Ending, Gave, Left, Over, Wrong, ◌>>=◌, leave}
-use Rattle.kt_mean.specs.Evaluation.{Program, fits, block, returned, tree_at}
+use Rattle.kt_mean.specs.Evaluation.{Program, fits, block, if_tree, returned, tree_at}
 use Rattle.kt_sound.proofs.TypingSteps.{none_in, Known, Kept, kept_trees}
-use Rattle.kt_sound.proofs.NoFinding.{not_open_none, parts_none, closed_stood, return_decided, typed_tree, typed_trees}
+use Rattle.kt_sound.proofs.NoFinding.{HasType, parts_none, closed_stood, return_decided, joined_decided, types_last, types_branched, typed_tree, typed_trees}
 use Rattle.kt_sound.proofs.ValueTypes.{Lies, unit_is}
 use Rattle.kt_sound.proofs.Operations.{breaks-gives}
-use Rattle.kt_sound.proofs.BodyStanding.{Place, Within, Accepted, AllAccepted, Gives, AllGive, Post, Eval, KeepsAt, Keeps}
+use Rattle.kt_sound.proofs.BodyStanding.{Place, Stands, Ready, Within, Accepted, AllAccepted, Gives, AllGive, Post, Eval, KeepsAt, Keeps}
 use Rattle.kt_sound.proofs.BodySteps.{within_left, within_right, ready, quiet, enters, leaves, values_post, block_post}
 use Rattle.kt_sound.proofs.BodyLaws.{Setting}
 use Rattle.kt_sound.proofs.ConditionLaws.{choice_post}
+use Rattle.kt_sound.proofs.ValuedBranches.{valued_post, joins, whole_gives, as_given}
 
 -- ---- `if`
 
-module _ {p : Program} {cx : TypeContext} (g : Place p cx) (locals : LocalTypes) (c : Tree) (a b : Trees) where
+module _ {p : Program} {cx : TypeContext} (g : Place p cx) (ways_true ways_false : Ways) (locals : LocalTypes) (c : Tree) (a b : Trees) where
   -- the second branch is typed behind the first, whose locals it doesn't see
   abbrev condition : Judgement
   condition = judged cx (Checked boolean) locals c
 
   abbrev first : Judgements
-  first = all_judged cx (Each Unvalued) condition.locals a
+  first = all_judged cx ways_true condition.locals a
 
   abbrev second : Judgements
-  second = all_judged cx (Each Unvalued) first.locals b
+  second = all_judged cx ways_false first.locals b
 
   -- what is accepted of a condition and two branches
   record Branches : Type 0 where
     pub asked : Accepted g (Checked boolean) locals c
-    pub if_true : AllAccepted g (Each Unvalued) condition.locals a
-    pub if_false : AllAccepted g (Each Unvalued) first.locals b
+    pub if_true : AllAccepted g ways_true condition.locals a
+    pub if_false : AllAccepted g ways_false first.locals b
+    pub is_typed : HasType condition.found
+    pub types_true : have_types first.each_found ≡ true
+    pub types_false : have_types second.each_found ≡ true
 
   branches : Known locals → (branched condition first second).findings ≡ [] → Kept second.locals g.locals → ((u : Tree) → Has (trees_in c ++ (all_trees_in a ++ all_trees_in b)) u → Contains (all_trees_in g.body) u) → Branches
   branches known none covered inside =
       let outer = none_in condition.findings (first.findings ++ second.findings) none in
       let inner = none_in first.findings second.findings outer.1 in
-      let known_asked = (typed_tree cx (Checked boolean) locals c known outer.0).known in
-      let known_first = (typed_trees cx (Each Unvalued) condition.locals a known_asked inner.0).known in
-      let covered_first : Kept first.locals g.locals = λ x u i. covered x u (kept_trees cx (Each Unvalued) first.locals b x u i) in
+      let typed_asked = typed_tree cx (Checked boolean) locals c known outer.0 in
+      let typed_first = typed_trees cx ways_true condition.locals a typed_asked.known inner.0 in
+      let typed_second = typed_trees cx ways_false first.locals b typed_first.known inner.1 in
+      let covered_first : Kept first.locals g.locals = λ x u i. covered x u (kept_trees cx ways_false first.locals b x u i) in
       record {
         asked = record {
           known = known;
           none = outer.0;
-          covered = λ x u i. covered_first x u (kept_trees cx (Each Unvalued) condition.locals a x u i);
+          covered = λ x u i. covered_first x u (kept_trees cx ways_true condition.locals a x u i);
           inside = λ u i. inside u (has_left (trees_in c) (all_trees_in a ++ all_trees_in b) u i);
         };
         if_true = record {
-          known = known_asked;
+          known = typed_asked.known;
           none = inner.0;
           covered = covered_first;
           inside = λ u i. inside u (has_right (trees_in c) (all_trees_in a ++ all_trees_in b) u (has_left (all_trees_in a) (all_trees_in b) u i));
         };
         if_false = record {
-          known = known_first;
+          known = typed_first.known;
           none = inner.1;
           covered = covered;
           inside = λ u i. inside u (has_right (trees_in c) (all_trees_in a ++ all_trees_in b) u (has_right (all_trees_in a) (all_trees_in b) u i));
         };
+        is_typed = typed_asked.type;
+        types_true = typed_first.types;
+        types_false = typed_second.types;
       }
 
--- where a branch ends, its tree ends, whose value nobody takes
-branch_end : {p : Program} {cx : TypeContext} (g : Place p cx) (context : FlowContext) (t : Tree) (exits : Exits) (found : Option KtType) (r : Ending Value)
+-- where a branch ends, its tree ends
+branch_end : {p : Program} {cx : TypeContext} (g : Place p cx) (context : FlowContext) (t : Tree) (exits : Exits) (way : Way) (found : Option KtType) (r : Ending Value)
     → ((x : Variable) (b : Bool) → assigned_after (out_of context.copy t).effects x b ≡ b) → Within g.edges (leave_edges context t exits)
-    → Post g (Then (out_of context.copy t ∷ [])) Unvalued None r → Post g exits Unvalued found r
-branch_end g context t exits found (Gave v s) same w h = (leaves context t exits v w (quiet {ms = []} same h.0), tt)
-branch_end g context t exits found (Left (Return v) s) same w h = h
-branch_end g context t exits found (Over l) same w h = tt
-branch_end g context t exits found Wrong same w h = h
+    → Post g (Then (out_of context.copy t ∷ [])) way found r → Post g exits way found r
+branch_end g context t exits way found (Gave v s) same w h = (leaves context t exits v w (quiet {ms = []} same h.0), h.1)
+branch_end g context t exits way found (Left (Return v) s) same w h = h
+branch_end g context t exits way found (Over l) same w h = tt
+branch_end g context t exits way found Wrong same w h = h
 
-pub law_if : (p : Program) (cx : TypeContext) → Setting p cx → (go : Eval) → Keeps p cx go → (n : Mark) (c : Tree) (a b : Trees) → KeepsAt p cx (tree_at p go) (If' n c a b)
-unfolding edges judged trees_in Has ◌>>=◌
-law_if p cx set go keeps n c a b g context exits Unvalued locals s w acc st =
+-- a tree whose branches each end as it is to end
+if_post : {p : Program} {cx : TypeContext} (g : Place p cx) (go : Eval) → Keeps p cx go → (context : FlowContext) (exits : Exits) (way : Way) (found : Option KtType) (locals : LocalTypes) (n : Mark) (c : Tree) (a b : Trees) (s : State)
+    → Within g.edges (edges context exits (If' n c a b)) → Stands g (in_of context.copy (If' n c a b)) s → Accepted g (Checked boolean) locals c
+    → ((s' : State) → Within g.edges (all_edges context (out_of context.copy (If' n c a b) ∷ []) a) → Ready g (entry_of context.copy (out_of context.copy (If' n c a b) ∷ []) a) s'
+    → Post g (Then (out_of context.copy (If' n c a b) ∷ [])) way found (block p go a s').ending)
+    → ((s' : State) → Within g.edges (all_edges context (out_of context.copy (If' n c a b) ∷ []) b) → Ready g (entry_of context.copy (out_of context.copy (If' n c a b) ∷ []) b) s'
+    → Post g (Then (out_of context.copy (If' n c a b) ∷ [])) way found (block p go b s').ending)
+    → Post g exits way found (if_tree p go c a b s).ending
+unfolding edges ◌>>=◌
+if_post {p} {cx} g go keeps context exits way found locals n c a b s w st asked at_true at_false =
     let t = If' n c a b in
     let out = out_of context.copy t in
-    let parts = branched (condition g locals c a b) (first g locals c a b) (second g locals c a b) in
     let on_true = entry_of context.copy (out ∷ []) a in
     let on_false = entry_of context.copy (out ∷ []) b in
+    let start = enter context t (in_of context.copy c ∷ []) in
     let within = edges context (Branch on_true on_false) c in
     let within_true = all_edges context (out ∷ []) a in
     let within_false = all_edges context (out ∷ []) b in
     let lasts = leave_edges context t exits in
-    let w1 = within_right (enter context t (in_of context.copy c ∷ [])) (within ++ (within_true ++ (within_false ++ lasts))) w in
+    let w1 = within_right start (within ++ (within_true ++ (within_false ++ lasts))) w in
     let w2 = within_right within (within_true ++ (within_false ++ lasts)) w1 in
     let w3 = within_right within_true (within_false ++ lasts) w2 in
     let w4 = within_right within_false lasts w3 in
-    let found = (closed cx Unvalued n parts (claim.Gives unit)).found in
-    let all = branches g locals c a b acc.known (parts_none cx Unvalued n parts (claim.Gives unit) acc.none) acc.covered (λ u i. acc.inside u (inr i)) in
-    choice_post g on_true on_false exits Unvalued found (condition g locals c a b).found (go c s).ending (block p go a) (block p go b)
-    (keeps c g context (Branch on_true on_false) (Checked boolean) locals s (within_left within (within_true ++ (within_false ++ lasts)) w1) all.asked
-    (enters context.copy c (ready context (in_of context.copy c ∷ []) (within_left (enter context t (in_of context.copy c ∷ [])) (within ++ (within_true ++ (within_false ++ lasts))) w) st)))
-    (λ s' r. branch_end g context t exits found (block p go a s').ending (λ x i. refl) w4
-    (block_post go keeps a g context (Each Unvalued) (condition g locals c a b).locals (out ∷ []) value.Unit s' (within_left within_true (within_false ++ lasts) w2) all.if_true r))
-    (λ s' r. branch_end g context t exits found (block p go b s').ending (λ x i. refl) w4
-    (block_post go keeps b g context (Each Unvalued) (first g locals c a b).locals (out ∷ []) value.Unit s' (within_left within_false lasts w3) all.if_false r))
-law_if p cx set go keeps n c a b g context exits way locals s w acc st = absurd (not_open_none cx way n locals acc.none)
+    choice_post g on_true on_false exits way found (judged cx (Checked boolean) locals c).found (go c s).ending (block p go a) (block p go b)
+    (keeps c g context (Branch on_true on_false) (Checked boolean) locals s (within_left within (within_true ++ (within_false ++ lasts)) w1) asked
+    (enters context.copy c (ready context (in_of context.copy c ∷ []) (within_left start (within ++ (within_true ++ (within_false ++ lasts))) w) st)))
+    (λ s' r. branch_end g context t exits way found (block p go a s').ending (λ x i. refl) w4 (at_true s' (within_left within_true (within_false ++ lasts) w2) r))
+    (λ s' r. branch_end g context t exits way found (block p go b s').ending (λ x i. refl) w4 (at_false s' (within_left within_false lasts w3) r))
+
+-- an `if` whose value is taken: its branches, and what is said of it
+module _ {p : Program} {cx : TypeContext} (g : Place p cx) (way : Way) (locals : LocalTypes) (n : Mark) (c : Tree) (a b : Trees) where
+  abbrev ways_true : Ways
+  ways_true = branch_ways (branch_way way) a
+
+  abbrev ways_false : Ways
+  ways_false = branch_ways (branch_way way) b
+
+  abbrev found_true : List (Option KtType)
+  found_true = (first g ways_true ways_false locals c a b).each_found
+
+  abbrev found_false : List (Option KtType)
+  found_false = (second g ways_true ways_false locals c a b).each_found
+
+  abbrev parts : Judgements
+  parts = branched (condition g ways_true ways_false locals c a b) (first g ways_true ways_false locals c a b) (second g ways_true ways_false locals c a b)
+
+  abbrev says : Claim
+  says = joined_claim cx.classes way n (last_of found_true) (last_of found_false)
+
+  abbrev whole : Judgement
+  whole = closed cx Plain n parts says
+
+  valued_if : Setting p cx → (go : Eval) → Keeps p cx go → (context : FlowContext) (exits : Exits) (s : State) → Within g.edges (edges context exits (If' n c a b)) → Stands g (in_of context.copy (If' n c a b)) s
+      → Branches g ways_true ways_false locals c a b → whole.findings ≡ [] → Post g exits way whole.found (if_tree p go c a b s).ending
+  valued_if set go keeps context exits s w st all none =
+      let out = out_of context.copy (If' n c a b) ∷ [] in
+      let asked = condition g ways_true ways_false locals c a b in
+      let one = first g ways_true ways_false locals c a b in
+      let other = second g ways_true ways_false locals c a b in
+      let types = types_branched asked one other all.is_typed all.types_true all.types_false in
+      let decided = joined_decided cx.classes way n (last_of found_true) (last_of found_false) (types_last found_true all.types_true) (types_last found_false all.types_false) in
+      let h = closed_stood cx Plain n parts says types decided none in
+      let j = joins cx.classes way n (last_of found_true) (last_of found_false) h.type h.gives in
+      let gives = whole_gives cx set.built_in way n parts (last_of found_true) (last_of found_false) types h j in
+      if_post g go keeps context exits way whole.found locals n c a b s w st all.asked
+      (λ s' w' r. as_given g (Then out) way (branch_way way) whole.found (Some j.first) (block p go a s').ending (λ v l. gives v (inl l))
+      (valued_post go keeps a g context (branch_way way) asked.locals out value.Unit s' j.first j.is_first w' all.if_true r))
+      (λ s' w' r. as_given g (Then out) way (branch_way way) whole.found (Some j.second) (block p go b s').ending (λ v l. gives v (inr l))
+      (valued_post go keeps b g context (branch_way way) one.locals out value.Unit s' j.second j.is_second w' all.if_false r))
+
+pub law_if : (p : Program) (cx : TypeContext) → Setting p cx → (go : Eval) → Keeps p cx go → (n : Mark) (c : Tree) (a b : Trees) → KeepsAt p cx (tree_at p go) (If' n c a b)
+unfolding judged trees_in Has
+law_if p cx set go keeps n c a b g context exits Unvalued locals s w acc st =
+    let each = Each Unvalued in
+    let inner = branched (condition g each each locals c a b) (first g each each locals c a b) (second g each each locals c a b) in
+    let found = (closed cx Unvalued n inner (claim.Gives unit)).found in
+    let out = out_of context.copy (If' n c a b) ∷ [] in
+    let all = branches g each each locals c a b acc.known (parts_none cx Unvalued n inner (claim.Gives unit) acc.none) acc.covered (λ u i. acc.inside u (inr i)) in
+    if_post g go keeps context exits Unvalued found locals n c a b s w st all.asked
+    (λ s' w' r. as_given g (Then out) Unvalued Unvalued found None (block p go a s').ending (λ v l. tt) (block_post go keeps a g context each (condition g each each locals c a b).locals out value.Unit s' w' all.if_true r))
+    (λ s' w' r. as_given g (Then out) Unvalued Unvalued found None (block p go b s').ending (λ v l. tt) (block_post go keeps b g context each (first g each each locals c a b).locals out value.Unit s' w' all.if_false r))
+law_if p cx set go keeps n c a b g context exits way locals s w acc st =
+    let none = parts_none cx Plain n (parts g way locals n c a b) (says g way locals n c a b) acc.none in
+    let all = branches g (ways_true g way locals n c a b) (ways_false g way locals n c a b) locals c a b acc.known none acc.covered (λ u i. acc.inside u (inr i)) in
+    valued_if g way locals n c a b set go keeps context exits s w st all acc.none
 
 -- ---- `return`
 

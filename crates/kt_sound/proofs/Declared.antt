@@ -25,7 +25,7 @@ use Rattle.kt_sound.proofs.TypingSteps.{none-some, some-some}
 
 -- ---- lists
 
-has_got : {A : Type 0} (xs : List A) (i : ℕ) (x : A) → slice_get xs i ≡ Some x → Has xs x
+pub has_got : {A : Type 0} (xs : List A) (i : ℕ) (x : A) → slice_get xs i ≡ Some x → Has xs x
 unfolding Has
 has_got [] i x e = absurd (none-some x e)
 has_got (y ∷ ys) zero x e = inl (some-some y x e)

@@ -1,13 +1,16 @@
 pub mod TypingSteps
 pub mod NoFinding
 pub mod ValueTypes
+pub mod UpperTypes
 pub mod BodyStanding
 pub mod BodySteps
+pub mod BodyEnds
 pub mod Operations
 pub mod BodyLaws
 pub mod LocalLaws
 pub mod CompoundLaw
 pub mod ConditionLaws
+pub mod ValuedBranches
 pub mod BranchLaws
 pub mod ParameterLaws
 pub mod CallLaw
@@ -16,9 +19,9 @@ pub mod NamedCalls
 pub mod NamedTrees
 pub mod OneFile
 pub mod DeadOfFile
-pub mod SignedCalls
 pub mod Declared
 pub mod TypedParameters
 pub mod ResolvedBodies
+pub mod WrittenBodies
 pub mod MainOfFile
 pub mod AcceptedFile

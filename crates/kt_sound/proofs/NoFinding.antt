@@ -14,7 +14,7 @@ use Rattle.kt_typing.specs.declared.claims.Way.TheVariants.{Unvalued, Plain, Inf
 use Rattle.kt_typing.specs.declared.claims.Claim.{Claim}
 use Rattle.kt_typing.specs.declared.claims.Claim.TheVariants.{Gives, Breaks, Lacks}
 use Rattle.kt_typing.specs.declared.claims.Operator.{Operator}
-use Rattle.kt_typing.specs.Typing.{Ways, Each, first_way, rest_ways, Signature, built_in_signature, TypeContext, LocalTypes, look_up, declared, initialised, Judgement, Judgements, alone, no_trees, in_front, is_subtype, stands_if, settled, claimed, outcome, type_in, finding_in, have_types, closed, not_open, count, demand_if, unit, operator_of, sum_operator, operator_demand, call_if, call_demand, operation_demand, equality_demand, is_text, first_of, apart, name_claim, value_way, known_type, declaration_claim, type_or_none, assign_claim, old_value, kept, compound_claim, left_way, right_way, inside, boolean, is_unit, unit_if, bare_return, return_claim, last_of, branched, judged, all_judged}
+use Rattle.kt_typing.specs.Typing.{Ways, Each, first_way, rest_ways, Signature, built_in_signature, TypeContext, LocalTypes, look_up, declared, initialised, Judgement, Judgements, alone, no_trees, in_front, is_subtype, stands_if, settled, claimed, outcome, type_in, finding_in, have_types, closed, not_open, count, demand_if, unit, operator_of, sum_operator, operator_demand, call_if, call_demand, operation_demand, equality_demand, is_text, first_of, apart, name_claim, value_way, known_type, declaration_claim, type_or_none, assign_claim, old_value, kept, compound_claim, left_way, right_way, inside, boolean, is_unit, unit_if, bare_return, return_claim, last_of, branch_way, branch_ways, joined_claim, branched, judged, all_judged}
 use Rattle.kt_sound.proofs.TypingSteps.{none_in, Known, known_declared, known_initialised}
 
 pub some_finding : {A : Type 0} (x : A) → x ∷ [] ≡ [] → ⊥
@@ -170,6 +170,13 @@ return_decided result n zero = bare_decided result n
 return_decided result n (suc zero) = tt
 return_decided result n (suc (suc k)) = tt
 
+pub joined_decided : (classes : Classes) (way : Way) (n : Mark) (ts us : List (Option KtType)) → have_types ts ≡ true → have_types us ≡ true → IsDecided (joined_claim classes way n ts us)
+joined_decided classes way n [] us h i = tt
+joined_decided classes way n (None ∷ ts) us h i = absurd (false≢true h)
+joined_decided classes way n (Some t ∷ ts) [] h i = tt
+joined_decided classes way n (Some t ∷ ts) (None ∷ us) h i = absurd (false≢true i)
+joined_decided classes way n (Some t ∷ ts) (Some u ∷ us) h i = tt
+
 -- ---- along trees
 
 -- a type, and that behind it each local has one
@@ -193,7 +200,7 @@ types_rest (Some t) rest h = h
 types_rest None rest h = absurd (false≢true h)
 
 -- the last of trees that have types has one
-types_last : (ts : List (Option KtType)) → have_types ts ≡ true → have_types (last_of ts) ≡ true
+pub types_last : (ts : List (Option KtType)) → have_types ts ≡ true → have_types (last_of ts) ≡ true
 types_last [] h = refl
 types_last (t ∷ []) h = h
 types_last (t ∷ u ∷ ts) h = types_last (u ∷ ts) (types_rest t (u ∷ ts) h)
@@ -262,7 +269,19 @@ mutual
       let one = typed_trees cx (Each Unvalued) condition.locals a asked.known both.0 in
       let other = typed_trees cx (Each Unvalued) first.locals b one.known both.1 in
       record { type = has_type cx Unvalued n parts (Gives unit) (types_branched condition first second asked.type one.types other.types) tt e; known = other.known }
-  typed_tree cx way locals (If' n c a b) h e = absurd (not_open_none cx way n locals e)
+  typed_tree cx way locals (If' n c a b) h e =
+      let condition = judged cx (Checked boolean) locals c in
+      let first = all_judged cx (branch_ways (branch_way way) a) condition.locals a in
+      let second = all_judged cx (branch_ways (branch_way way) b) first.locals b in
+      let parts = branched condition first second in
+      let claim = joined_claim cx.classes way n (last_of first.each_found) (last_of second.each_found) in
+      let none = none_in condition.findings (first.findings ++ second.findings) (parts_none cx Plain n parts claim e) in
+      let both = none_in first.findings second.findings none.1 in
+      let asked = typed_tree cx (Checked boolean) locals c h none.0 in
+      let one = typed_trees cx (branch_ways (branch_way way) a) condition.locals a asked.known both.0 in
+      let other = typed_trees cx (branch_ways (branch_way way) b) first.locals b one.known both.1 in
+      let decided = joined_decided cx.classes way n _ _ (types_last first.each_found one.types) (types_last second.each_found other.types) in
+      record { type = has_type cx Plain n parts claim (types_branched condition first second asked.type one.types other.types) decided e; known = other.known }
   typed_tree cx way locals (Declare' n x) h e =
       record { type = has_type cx way n (no_trees (declared locals x (cx.written x))) (Gives unit) refl tt e; known = known_declared locals x (cx.written x) h }
   typed_tree cx way locals (Local' n at x t) h e =

@@ -5,7 +5,7 @@ use Rattle.kt_model.specs.BodyTrees.{Operation, Mark, Tree, Trees, Empty', First
 use Rattle.kt_model.specs.declared.kinds.KtType.{KtType}
 use Rattle.kt_typing.specs.declared.claims.Way.{Way}
 use Rattle.kt_typing.specs.declared.claims.Way.TheVariants.{Unvalued, Plain, Inferred, Checked}
-use Rattle.kt_typing.specs.Typing.{Ways, Each, first_way, rest_ways, TypeContext, LocalTypes, look_up, bound_unless, bound, declared, initialised, count, operator_of, call_demand, operation_demand, is_text, first_of, apart, value_way, known_type, type_or_none, right_way, inside, boolean, judged, all_judged, parameter_types}
+use Rattle.kt_typing.specs.Typing.{Ways, Each, first_way, rest_ways, TypeContext, LocalTypes, look_up, bound_unless, bound, declared, initialised, count, operator_of, call_demand, operation_demand, is_text, first_of, apart, value_way, known_type, type_or_none, right_way, inside, boolean, branch_way, branch_ways, judged, all_judged, parameter_types}
 
 -- ---- lists and options
 
@@ -182,7 +182,11 @@ mutual
       let condition = judged cx (Checked boolean) locals c in
       let first = all_judged cx (Each Unvalued) condition.locals a in
       kept_trees cx (Each Unvalued) first.locals b x u (kept_trees cx (Each Unvalued) condition.locals a x u (kept_tree cx (Checked boolean) locals c x u h))
-  kept_tree cx way locals (If' n c a b) x u h = h
+  kept_tree cx way locals (If' n c a b) x u h =
+      let condition = judged cx (Checked boolean) locals c in
+      let first = all_judged cx (branch_ways (branch_way way) a) condition.locals a in
+      kept_trees cx (branch_ways (branch_way way) b) first.locals b x u
+      (kept_trees cx (branch_ways (branch_way way) a) condition.locals a x u (kept_tree cx (Checked boolean) locals c x u h))
   kept_tree cx way locals (Declare' n y) x u h = kept_declared locals y (cx.written y) x u h
   kept_tree cx way locals (Local' n at y e) x u h =
       let value = judged cx (value_way (known_type (look_up locals y) (cx.written y))) locals e in
@@ -213,7 +217,11 @@ mutual
       let condition = judged cx (Checked boolean) locals c in
       let first = all_judged cx (Each Unvalued) condition.locals a in
       written_trees cx (Each Unvalued) first.locals b (written_trees cx (Each Unvalued) condition.locals a (written_tree cx (Checked boolean) locals c h))
-  written_tree cx way locals (If' n c a b) h = h
+  written_tree cx way locals (If' n c a b) h =
+      let condition = judged cx (Checked boolean) locals c in
+      let first = all_judged cx (branch_ways (branch_way way) a) condition.locals a in
+      written_trees cx (branch_ways (branch_way way) b) first.locals b
+      (written_trees cx (branch_ways (branch_way way) a) condition.locals a (written_tree cx (Checked boolean) locals c h))
   written_tree cx way locals (Declare' n y) h = written_declared cx.written locals y h
   written_tree cx way locals (Local' n at y e) h =
       let value = judged cx (value_way (known_type (look_up locals y) (cx.written y))) locals e in

@@ -62,7 +62,7 @@ or_right : (a b : Bool) → b ≡ true → (a || b) ≡ true
 or_right true b e = refl
 or_right false b e = e
 
-of_any : (v : Value) (c : ℕ) → c ≡ any → is_of (Some c) v ≡ true
+pub of_any : (v : Value) (c : ℕ) → c ≡ any → is_of (Some c) v ≡ true
 of_any v c e = or_left (c == any) (c == class_of_value v) (eq-eqb c any e)
 
 of_own : (v : Value) (c : ℕ) → c ≡ class_of_value v → is_of (Some c) v ≡ true
@@ -74,7 +74,7 @@ class_alone classes h value.Unit = h.unit_class
 class_alone classes h (value.Bool b) = h.boolean_class
 class_alone classes h (value.Int k) = h.int_class
 
-of_above : (classes : Classes) → HasBuiltInClasses classes → (v : Value) (a c : ℕ) → is_of (Some a) v ≡ true → is_under classes a c ≡ true → is_of (Some c) v ≡ true
+pub of_above : (classes : Classes) → HasBuiltInClasses classes → (v : Value) (a c : ℕ) → is_of (Some a) v ≡ true → is_under classes a c ≡ true → is_of (Some c) v ≡ true
 of_above classes h v a c l u =
     elim (either (a == any) (a == class_of_value v) l) [
       | inl e ↦ elim (above_alone classes any c h.any_class (subst (λ x. is_under classes x c ≡ true) (eqb-true a any e) u)) [ inl i ↦ of_any v c i | inr i ↦ of_any v c i ]

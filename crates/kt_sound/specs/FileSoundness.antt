@@ -2,6 +2,7 @@
 use Rattle.std.specs.Prelude.{◌≡◌, ℕ, ◌<◌, List, length, Some}
 use Rattle.kt_tree.specs.declared.ast.declaration.File.{File}
 use Rattle.kt_model.specs.Classes.{Classes, written}
+use Rattle.kt_model.specs.MemberRules.{IsMisdeclared}
 use Rattle.kt_model.specs.Outlines.{outlines_of}
 use Rattle.kt_model.specs.NameUses.{Resolved}
 use Rattle.kt_model.specs.Scopes.{IsResolved}
@@ -26,9 +27,10 @@ pub record IsBodyAccepted (file : File) (uses : Resolved) (place : ℕ) : Type 0
   pub flows : (f : Finding) → IsPathViolated file uses (owner.Function place) f → ⊥
   pub entered : SettlesEntered (owner_parameters uses (owner.Function place)) (owner_trees file uses (owner.Function place))
 
--- The names of a file are resolved, it has a `main`, and each of its bodies is accepted.
+-- The names of a file are resolved, no rule on members is violated in it, by which each of its functions has a body, it has a `main`, and each body is accepted.
 pub record AreBodiesAccepted (file : File) (uses : Resolved) (main : ℕ) : Type 0 where
   pub resolved : IsResolved file uses
+  pub members : (f : Finding) → IsMisdeclared file f → ⊥
   pub is_main : main_of file ≡ Some main
   pub bodies : (place : ℕ) → place < length file.functions → IsBodyAccepted file uses place
 

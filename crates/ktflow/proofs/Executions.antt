@@ -12,7 +12,7 @@ use Rattle.kt_mean.specs.WholeRun.{whole, run_ending}
 use Rattle.kt_mean.specs.declared.states.RunEnding.{RunEnding}
 use Rattle.kt_mean.specs.declared.states.RunEnding.TheVariants as ending
 use Rattle.kt_sound.specs.FileSoundness.{AreBodiesAccepted, HaveProgram, FilesNeverWrong}
-use Rattle.kt_check.specs.Violations.{in_file, in_body}
+use Rattle.kt_check.specs.Violations.{in_file, in_members, in_body}
 use Rattle.kt_check.specs.Verdicts.{IsAcceptedFile}
 use Rattle.kt_run.specs.Running.{IsNeverWrong, NeverWrong, RunsWhole, RunsOn}
 use Rattle.kt_run.specs.declared.run.End.{End}
@@ -28,6 +28,7 @@ module _ (source : List ℕ) (file : File) (uses : Resolved) (main : ℕ) (a : I
   bodies_accepted : AreBodiesAccepted file uses main
   bodies_accepted = record {
     resolved = a.accepted.resolved;
+    members = λ f violated. a.accepted.none 5 f (in_file file a.accepted.has_file (in_members f violated));
     is_main = a.is_main;
     bodies = λ place here. record {
       typed = λ f violated. a.accepted.none 9 f (in_file file a.accepted.has_file (in_body f uses place a.accepted.resolved here (inl violated)));

@@ -12,6 +12,19 @@ of_branch-returns-in-Braced t c = grind (arith, fold.heights)
 pub of_branch-returns-in-Single : goal.of_branch-returns-in-Single
 of_branch-returns-in-Single t c = grind (arith, fold.heights)
 
+pub of_branching-returns-in-If : goal.of_branching-returns-in-If
+of_branching-returns-in-If t c =
+    let e : (kind_parts c.args.kind.now).height ≡ max (max (expr_height c.in-If.condition) (branch_height c.in-If.then)) (height_if (option_map branch_height c.in-If.otherwise)) = ap (λ k. (kind_parts k).height) c.in-If.is ∙ fold.kind_if _ _ _ in
+    cc
+
+pub of_branching-returns-in-When : goal.of_branching-returns-in-When
+of_branching-returns-in-When t c = grind (arith, fold.heights)
+
+pub of_branching-returns-in-Try : goal.of_branching-returns-in-Try
+of_branching-returns-in-Try t c =
+    let e : (kind_parts c.args.kind.now).height ≡ max (max (block_height c.in-Try.body) (greatest (map catch_height c.in-Try.catches))) (height_if (option_map block_height c.in-Try.finally)) = ap (λ k. (kind_parts k).height) c.in-Try.is ∙ fold.kind_try _ _ _ in
+    cc
+
 pub of_catch-returns : goal.of_catch-returns
 of_catch-returns t c = grind (arith, fold.heights)
 
@@ -39,19 +52,6 @@ of_kind-returns-in-Call t c = grind (arith, fold.heights)
 pub of_kind-returns-in-MemberCall : goal.of_kind-returns-in-MemberCall
 of_kind-returns-in-MemberCall t c = grind (arith, fold.heights)
 
-pub of_kind-returns-in-If : goal.of_kind-returns-in-If
-of_kind-returns-in-If t c =
-    let e : (kind_parts c.args.kind.now).height ≡ max (max (expr_height c.in-If.condition) (branch_height c.in-If.then)) (height_if (option_map branch_height c.in-If.otherwise)) = ap (λ k. (kind_parts k).height) c.in-If.is ∙ fold.kind_if _ _ _ in
-    cc
-
-pub of_kind-returns-in-When : goal.of_kind-returns-in-When
-of_kind-returns-in-When t c = grind (arith, fold.heights)
-
-pub of_kind-returns-in-Try : goal.of_kind-returns-in-Try
-of_kind-returns-in-Try t c =
-    let e : (kind_parts c.args.kind.now).height ≡ max (max (block_height c.in-Try.body) (greatest (map catch_height c.in-Try.catches))) (height_if (option_map block_height c.in-Try.finally)) = ap (λ k. (kind_parts k).height) c.in-Try.is ∙ fold.kind_try _ _ _ in
-    cc
-
 pub of_kind-returns-in-Int : goal.of_kind-returns-in-Int
 of_kind-returns-in-Int t c = grind (arith, fold.heights)
 
@@ -61,17 +61,17 @@ of_kind-returns-in-Int-2 t c = grind (arith, fold.heights)
 pub of_kind-returns-in-Int-3 : goal.of_kind-returns-in-Int-3
 of_kind-returns-in-Int-3 t c = grind (arith, fold.heights)
 
-pub of_kind-returns-in-Int-4 : goal.of_kind-returns-in-Int-4
-of_kind-returns-in-Int-4 t c = grind (arith, fold.heights)
+pub of_kind-returns-in-Null : goal.of_kind-returns-in-Null
+of_kind-returns-in-Null t c = grind (arith, fold.heights)
 
-pub of_kind-returns-in-Int-5 : goal.of_kind-returns-in-Int-5
-of_kind-returns-in-Int-5 t c = grind (arith, fold.heights)
+pub of_kind-returns-in-Null-2 : goal.of_kind-returns-in-Null-2
+of_kind-returns-in-Null-2 t c = grind (arith, fold.heights)
 
-pub of_kind-returns-in-Int-6 : goal.of_kind-returns-in-Int-6
-of_kind-returns-in-Int-6 t c = grind (arith, fold.heights)
+pub of_kind-returns-in-Null-3 : goal.of_kind-returns-in-Null-3
+of_kind-returns-in-Null-3 t c = grind (arith, fold.heights)
 
-pub of_kind-returns-in-Int-7 : goal.of_kind-returns-in-Int-7
-of_kind-returns-in-Int-7 t c = grind (arith, fold.heights)
+pub of_kind-returns-in-Null-4 : goal.of_kind-returns-in-Null-4
+of_kind-returns-in-Null-4 t c = grind (arith, fold.heights)
 
 pub of_kind-returns-in-Sum : goal.of_kind-returns-in-Sum
 of_kind-returns-in-Sum t c = grind (arith, fold.heights)
