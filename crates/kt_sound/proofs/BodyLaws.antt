@@ -12,7 +12,7 @@ use Rattle.kt_typing.specs.declared.claims.Claim.TheVariants as claim
 use Rattle.kt_typing.specs.Typing.{Each, TypeContext, look_up, no_trees, closed, have_types, count, operation_demand, is_text, first_of, apart, name_claim, inside, judged, all_judged, Judgements}
 use Rattle.kt_model.proofs.ListLemmas.{Has}
 use Rattle.kt_mean.specs.declared.states.Value.{Value}
-use Rattle.kt_mean.specs.declared.states.Way.TheVariants.{Return}
+use Rattle.kt_mean.specs.declared.states.Way.TheVariants.{Return, Throw}
 use Rattle.kt_mean.specs.Frames.{State, Ending, Gave, Left, Over, Wrong, Run, pure, wrong}
 use Rattle.kt_mean.specs.Evaluation.{Program, read, read_value, operated, tree_at}
 use Rattle.kt_model.specs.TreesWithin.{trees_in}
@@ -35,12 +35,14 @@ value_gives cx set way n parts c types h v l = gives_of cx.classes set.built_in 
 
 -- ---- operations
 
--- a tree that ends by what gives a value and changes no state
+-- a tree that ends by what gives a value and changes no state, or throws
 pub yields_post : {p : Program} {cx : TypeContext} (g : Place p cx) (context : FlowContext) (t : Tree) (exits : Exits) (way : Way) (found : Option KtType) (d : KtType) (r : Run Value) (s : State) → Yields r d
     → Within g.edges (leave_edges context t exits) → Stands g (out_of context.copy t) s → ((v : Value) → Lies v d → Gives way found v) → Post g exits way found (r s).ending
 yields_post g context t exits way found d r s y w st h =
-    let one = y.at s in
-    subst (λ e. Post g exits way found e) (sym one.1.0) (leaves context t exits one.0 w st, h one.0 one.1.1)
+    elim (y.at s) [
+      | inl gave ↦ subst (λ e. Post g exits way found e) (sym gave.1.0) (leaves context t exits gave.0 w st, h gave.0 gave.1.1)
+      | inr thrown ↦ subst (λ e. Post g exits way found e) (sym thrown.1) tt
+    ]
 
 pub law_operation : (p : Program) (cx : TypeContext) → Setting p cx → (go : Eval) → Keeps p cx go → (n : Mark) (o : Operation) (parts : Trees) → KeepsAt p cx (tree_at p go) (Operation' n o parts)
 unfolding edges judged trees_in Has
@@ -111,10 +113,12 @@ paren_post : {p : Program} {cx : TypeContext} (g : Place p cx) (context : FlowCo
     → Within g.edges (test_edges context (out_of context.copy (Paren' n e)) exits) → Post g (inside_of (out_of context.copy (Paren' n e)) exits) (inside way) found r → Post g exits way found r
 paren_post g context n e (Then next) way found (Gave v s) w h = (ready context next w (quiet {ms = []} (λ x b. refl) h.0), gives_inside way found v h.1)
 paren_post g context n e (Then next) way found (Left (Return v) s) w h = h
+paren_post g context n e (Then next) way found (Left (Throw x) s) w h = tt
 paren_post g context n e (Then next) way found (Over l) w h = tt
 paren_post g context n e (Then next) way found Wrong w h = h
 paren_post g context n e (Branch on_true on_false) way found (Gave v s) w h = (h.0, gives_inside way found v h.1)
 paren_post g context n e (Branch on_true on_false) way found (Left (Return v) s) w h = h
+paren_post g context n e (Branch on_true on_false) way found (Left (Throw x) s) w h = tt
 paren_post g context n e (Branch on_true on_false) way found (Over l) w h = tt
 paren_post g context n e (Branch on_true on_false) way found Wrong w h = h
 

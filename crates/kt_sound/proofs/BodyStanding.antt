@@ -12,7 +12,7 @@ use Rattle.kt_typing.specs.Typing.{TypeContext, LocalTypes, Ways, first_way, res
 use Rattle.kt_model.proofs.ListLemmas.{Has}
 use Rattle.kt_mean.specs.declared.states.Value.{Value}
 use Rattle.kt_mean.specs.declared.states.Value.TheVariants as value
-use Rattle.kt_mean.specs.declared.states.Way.TheVariants.{Return}
+use Rattle.kt_mean.specs.declared.states.Way.TheVariants.{Return, Throw}
 use Rattle.kt_mean.specs.Frames.{Frame, State, Ending, Gave, Left, Over, Wrong, Run}
 use Rattle.kt_mean.specs.Evaluation.{Function, Program, fits}
 use Rattle.kt_model.specs.TreesWithin.{trees_in, all_trees_in, called_by, returns_at}
@@ -116,10 +116,11 @@ abbrev pub goes : Exits → Value → List Node
 goes (Then next) v = next
 goes (Branch on_true on_false) v = pick (is_true v) on_true on_false
 
--- Where the frame stands after an evaluation, and what its value is, by how it ended. What is returned fits the function's result.
+-- Where the frame stands after an evaluation, and what its value is, by how it ended. What is returned fits the function's result; what is thrown is free.
 abbrev pub Post : {p : Program} {cx : TypeContext} → Place p cx → Exits → Way → Option KtType → Ending Value → Type 0
 Post {p} {cx} g exits way found (Gave v s) = Ready g (goes exits v) s × Gives way found v
 Post {p} {cx} g exits way found (Left (Return v) s) = fits cx.result v ≡ true
+Post {p} {cx} g exits way found (Left (Throw x) s) = ⊤
 Post {p} {cx} g exits way found (Over k) = ⊤
 Post {p} {cx} g exits way found Wrong = ⊥
 

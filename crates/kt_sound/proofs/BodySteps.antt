@@ -12,7 +12,7 @@ use Rattle.kt_typing.specs.declared.claims.Way.TheVariants.{Unvalued}
 use Rattle.kt_typing.specs.Typing.{TypeContext, LocalTypes, Ways, first_way, rest_ways, look_up, judged, all_judged}
 use Rattle.kt_model.proofs.ListLemmas.{has_left, has_right}
 use Rattle.kt_mean.specs.declared.states.Value.{Value}
-use Rattle.kt_mean.specs.declared.states.Way.TheVariants.{Return}
+use Rattle.kt_mean.specs.declared.states.Way.TheVariants.{Return, Throw}
 use Rattle.kt_mean.specs.Frames.{with_local, Frame, State, Ending, Gave, Left, Over, Wrong, Run, ◌>>=◌, pure, ending_after}
 use Rattle.kt_mean.specs.Evaluation.{Program, with_values, block_from}
 use Rattle.kt_model.specs.TreesWithin.{trees_in, all_trees_in}
@@ -141,6 +141,7 @@ pub value_post : {p : Program} {cx : TypeContext} (g : Place p cx) (after : List
     → Post g (Then after) way' found' r → ((v : Value) (s : State) → Ready g after s → Gives way' found' v → Post g exits way found (k v s).ending) → Post g exits way found (ending_after r k)
 value_post g after exits way way' found found' (Gave v s) k h next = next v s h.0 h.1
 value_post g after exits way way' found found' (Left (Return v) s) k h next = h
+value_post g after exits way way' found found' (Left (Throw x) s) k h next = tt
 value_post g after exits way way' found found' (Over l) k h next = tt
 value_post g after exits way way' found found' Wrong k h next = h
 

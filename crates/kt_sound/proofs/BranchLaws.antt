@@ -14,7 +14,7 @@ use Rattle.kt_typing.specs.declared.claims.Claim.TheVariants as claim
 use Rattle.kt_typing.specs.Typing.{Ways, Each, TypeContext, LocalTypes, Judgement, Judgements, have_types, last_of, branch_way, branch_ways, joined_claim, branched, closed, count, boolean, unit, is_unit, unit_if, bare_return, return_claim, value_way, judged, all_judged}
 use Rattle.kt_mean.specs.declared.states.Value.{Value}
 use Rattle.kt_mean.specs.declared.states.Value.TheVariants as value
-use Rattle.kt_mean.specs.declared.states.Way.TheVariants.{Return}
+use Rattle.kt_mean.specs.declared.states.Way.TheVariants.{Return, Throw}
 use Rattle.kt_mean.specs.Frames.{State, Ending, Gave, Left, Over, Wrong, ◌>>=◌, leave}
 use Rattle.kt_mean.specs.Evaluation.{Program, fits, block, if_tree, returned, tree_at}
 use Rattle.kt_sound.proofs.TypingSteps.{none_in, Known, Kept, kept_trees}
@@ -87,6 +87,7 @@ branch_end : {p : Program} {cx : TypeContext} (g : Place p cx) (context : FlowCo
     → Post g (Then (out_of context.copy t ∷ [])) way found r → Post g exits way found r
 branch_end g context t exits way found (Gave v s) same w h = (leaves context t exits v w (quiet {ms = []} same h.0), h.1)
 branch_end g context t exits way found (Left (Return v) s) same w h = h
+branch_end g context t exits way found (Left (Throw x) s) same w h = tt
 branch_end g context t exits way found (Over l) same w h = tt
 branch_end g context t exits way found Wrong same w h = h
 

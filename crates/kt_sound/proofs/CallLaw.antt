@@ -12,7 +12,7 @@ use Rattle.kt_typing.specs.Typing.{Ways, Each, TypeContext, LocalTypes, Signatur
 use Rattle.kt_model.proofs.ListLemmas.{Has}
 use Rattle.kt_mean.specs.declared.states.Value.{Value}
 use Rattle.kt_mean.specs.declared.states.Value.TheVariants as value
-use Rattle.kt_mean.specs.declared.states.Way.TheVariants.{Return}
+use Rattle.kt_mean.specs.declared.states.Way.TheVariants.{Return, Throw}
 use Rattle.kt_mean.specs.declared.states.Limit.TheVariants as limit
 use Rattle.kt_mean.specs.Frames.{Frame, State, Ending, Gave, Left, Over, Wrong, ◌>>=◌, pure, over, wrong, turned}
 use Rattle.kt_mean.specs.Evaluation.{Function, Program, choose, fits, most_calls, limited, arguments_fit, begun, resume, given, ended, call_end, block_from, block, invoke, called, tree_at}
@@ -29,7 +29,8 @@ use Rattle.kt_sound.proofs.ParameterLaws.{found_count, same_count, checked_fit}
 -- after a call, the frame that made it is as it was, and the value is of the callee's result
 abbrev pub CallPost : KtType → Frame → Ending Value → Type 0
 CallPost d here (Gave v s) = (s.here ≡ here) × Lies v d
-CallPost d here (Left k s) = ⊥
+CallPost d here (Left (Return v) s) = ⊥
+CallPost d here (Left (Throw x) s) = ⊤
 CallPost d here (Over l) = ⊤
 CallPost d here Wrong = ⊥
 
@@ -72,6 +73,7 @@ caller_post g context n f true arguments exits way found d s (Gave v s') w r sto
     (leaves context (Call' n f true arguments) exits v w (quiet {ms = []} (λ x b. refl) (same_here post.0 r)), h v post.1)
 caller_post g context n f false arguments exits way found d s (Gave v s') w r stops h post = absurd (false≢true (subst (λ t. Lies v t) (stops refl) post.1))
 caller_post g context n f returns arguments exits way found d s (Left (Return v) s') w r stops h post = absurd post
+caller_post g context n f returns arguments exits way found d s (Left (Throw x) s') w r stops h post = tt
 caller_post g context n f returns arguments exits way found d s (Over l) w r stops h post = tt
 caller_post g context n f returns arguments exits way found d s Wrong w r stops h post = post
 
@@ -139,6 +141,7 @@ law_call p cx set go keeps calls n f returns arguments g context exits way local
 abbrev pub BodyPost : {p : Program} {cx : TypeContext} → Place p cx → (Value → State → Type 0) → Ending Value → Type 0
 BodyPost {p} {cx} g P (Gave v s) = P v s
 BodyPost {p} {cx} g P (Left (Return v) s) = fits cx.result v ≡ true
+BodyPost {p} {cx} g P (Left (Throw x) s) = ⊤
 BodyPost {p} {cx} g P (Over l) = ⊤
 BodyPost {p} {cx} g P Wrong = ⊥
 
@@ -146,6 +149,7 @@ body_post : {p : Program} {cx : TypeContext} (g : Place p cx) (P : Value → Sta
     → ((v : Value) (s : State) → Ready g next s → Gives way found v → P v s) → BodyPost g P r
 body_post g P next way found (Gave v s) h gives = gives v s h.0 h.1
 body_post g P next way found (Left (Return v) s) h gives = h
+body_post g P next way found (Left (Throw x) s) h gives = tt
 body_post g P next way found (Over l) h gives = tt
 body_post g P next way found Wrong h gives = h
 
@@ -190,6 +194,7 @@ Ended f d v s = (f.is_expression ≡ true → Lies v d) × (f.is_expression ≡ 
 end_post : {p : Program} {cx : TypeContext} (f : Function) (d : KtType) (c : Callee p cx f d) (here : Frame) (calls : ℕ) (e : Ending Value) → BodyPost c.place (Ended f d) e → CallPost d here (call_end f here calls e)
 end_post f d c here calls (Gave v s) post = ended_post f.is_expression f.result d v (resume here calls s) here c.result post.0 post.1 refl
 end_post f d c here calls (Left (Return v) s) post = given_post f.result d v (resume here calls s) here c.result (subst (λ o. fits o v ≡ true) c.result post) refl
+end_post f d c here calls (Left (Throw x) s) post = tt
 end_post f d c here calls (Over l) post = tt
 end_post f d c here calls Wrong post = post
 

@@ -2,7 +2,6 @@
 use Rattle.std.proofs.Common.{◌≡◌, ℕ, ℤ, pos, suc, nat_le, is_some, Bool, true, false, if◌then◌else◌, Option, Some, None, List, [], ◌∷◌, ◌++◌, Contains, inl, inr, refl, sym, ap, subst, ◌∙◌, arith, true≢false}
 use Rattle.std.proofs.lemmas.Bool.{cases_Bool, leb-true, false≢true}
 use Rattle.kt_tree.specs.declared.token.Span.{Span}
-use Rattle.kt_tree.specs.declared.ast.part.Arithmetic.TheVariants as arithmetic
 use Rattle.kt_model.specs.Classes.{Classes}
 use Rattle.kt_model.specs.declared.finding.Rule.TheVariants.{Syntax}
 use Rattle.kt_typing.specs.declared.claims.Operator.{Operator}
@@ -23,7 +22,7 @@ use Rattle.kt_model.specs.TreesWithin.{trees_in, all_trees_in}
 use Rattle.kt_sound.proofs.TypingSteps.{none_in, none-some, some-some, kept_trees}
 use Rattle.kt_sound.proofs.NoFinding.{parts_none, closed_stood, IsDecided, some_finding, old_known, old_typed, compound_decided, types_first, typed_trees}
 use Rattle.kt_sound.proofs.ValueTypes.{Lies, lies_above, int_of, no_texts}
-use Rattle.kt_sound.proofs.Operations.{Yields, sum_yields, subtract_yields, multiply_yields, gives-gives, breaks-gives}
+use Rattle.kt_sound.proofs.Operations.{Yields, sum_yields, arithmetic_yields, gives-gives, breaks-gives}
 use Rattle.kt_sound.proofs.BodyStanding.{Place, Ready, AllGive, Post, Eval, KeepsAt, Keeps}
 use Rattle.kt_sound.proofs.BodySteps.{within_left, within_right, ready, leaves, values_post}
 use Rattle.kt_sound.proofs.BodyLaws.{Setting, value_gives}
@@ -47,10 +46,7 @@ numbers Null' text op f e = absurd (none-some op e)
 numbers (Template' texts) text op f e = absurd (none-some op e)
 numbers (Sign' s) text op f e = absurd (none-some op e)
 numbers Sum' text op f e = numbers_sum text op f e
-numbers (Arithmetic' arithmetic.Subtract) text op f e = record { is = sym (some-some (sum_operator false) op e); yields = subtract_yields }
-numbers (Arithmetic' arithmetic.Multiply) text op f e = record { is = sym (some-some (sum_operator false) op e); yields = multiply_yields }
-numbers (Arithmetic' arithmetic.Divide) text op f e = absurd (none-some op e)
-numbers (Arithmetic' arithmetic.Remainder) text op f e = absurd (none-some op e)
+numbers (Arithmetic' o) text op f e = record { is = sym (some-some (sum_operator false) op e); yields = arithmetic_yields o }
 numbers (Compare' c) text op f e = absurd (none-some op e)
 numbers (Equal' c) text op f e = absurd (none-some op e)
 numbers (BuiltIn' name returns) text op f e = absurd (none-some op e)
@@ -104,11 +100,15 @@ compound_free g copy n at x false o operand s i r f = absurd (false≢true f)
 not_text : (v : Value) (t : KtType) → Lies v t → is_text (Some t) ≡ false
 not_text v t l = elim (cases_Bool (is_text (Some t))) [ inl e ↦ absurd (no_texts v t e l) | inr e ↦ e ]
 
--- what follows an operation that gives a value and changes no state
+-- what follows an operation that gives a value and changes no state, or throws
 after_yields : {p : Program} {cx : TypeContext} (g : Place p cx) (exits : Exits) (way : Way) (found : Option KtType) (d : KtType) (r : Run Value) (k : Value → Run Value) (s : State) → Yields r d
     → ((v : Value) → Lies v d → Post g exits way found (k v s).ending) → Post g exits way found ((r >>= k) s).ending
 unfolding ◌>>=◌
-after_yields g exits way found d r k s y h = let one = y.at s in subst (λ e. Post g exits way found (ending_after e k)) (sym one.1.0) (h one.0 one.1.1)
+after_yields g exits way found d r k s y h =
+    elim (y.at s) [
+      | inl gave ↦ subst (λ e. Post g exits way found (ending_after e k)) (sym gave.1.0) (h gave.0 gave.1.1)
+      | inr thrown ↦ subst (λ e. Post g exits way found (ending_after e k)) (sym thrown.1) tt
+    ]
 
 -- what follows a read that finds a value
 after_read : {p : Program} {cx : TypeContext} (g : Place p cx) (exits : Exits) (way : Way) (found : Option KtType) (x : ℕ) (k : Value → Run Value) (s : State) → is_some (s.here.locals x) ≡ true

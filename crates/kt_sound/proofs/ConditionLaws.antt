@@ -14,7 +14,7 @@ use Rattle.kt_typing.specs.declared.claims.Claim.TheVariants as claim
 use Rattle.kt_typing.specs.Typing.{TypeContext, LocalTypes, Judgement, Judgements, alone, in_front, closed, have_types, boolean, judged}
 use Rattle.kt_mean.specs.declared.states.Value.{Value}
 use Rattle.kt_mean.specs.declared.states.Value.TheVariants as value
-use Rattle.kt_mean.specs.declared.states.Way.TheVariants.{Return}
+use Rattle.kt_mean.specs.declared.states.Way.TheVariants.{Return, Throw}
 use Rattle.kt_mean.specs.Frames.{State, Ending, Gave, Left, Over, Wrong, Run, ◌>>=◌, pure, ending_after}
 use Rattle.kt_mean.specs.Evaluation.{Program, choose, truth_of, asked, tree_at}
 use Rattle.kt_sound.proofs.TypingSteps.{none_in, Known, Kept, kept_tree}
@@ -36,6 +36,7 @@ truth_post g on_true on_false exits way found found' (Gave value.Unit s) k h nex
 truth_post g on_true on_false exits way found found' (Gave (value.Bool b) s) k h next = next b s h.0
 truth_post g on_true on_false exits way found found' (Gave (value.Int i) s) k h next = absurd (false≢true h.1.1)
 truth_post g on_true on_false exits way found found' (Left (Return v) s) k h next = h
+truth_post g on_true on_false exits way found found' (Left (Throw x) s) k h next = tt
 truth_post g on_true on_false exits way found found' (Over l) k h next = tt
 truth_post g on_true on_false exits way found found' Wrong k h next = h
 

@@ -3,7 +3,6 @@ use Rattle.std.proofs.Common.{◌≡◌, ℕ, zero, suc, ◌==◌, nat_le, cond,
 use Rattle.std.specs.Prelude.{⊤}
 use Rattle.std.proofs.lemmas.Bool.{false≢true}
 use Rattle.kt_tree.specs.declared.token.Span.{Span}
-use Rattle.kt_tree.specs.declared.ast.part.Arithmetic.TheVariants as arithmetic
 use Rattle.kt_model.specs.BodyTrees.{Operation, Int', Bool', Null', Template', Sign', Sum', Arithmetic', Compare', Equal', BuiltIn', Mark, Tree, Trees, Empty', First', Operation', Name', Paren', Not', And', Or', If', Declare', Local', Assign', Compound', Call', Return', Throw', Shut'}
 use Rattle.kt_model.specs.Classes.{Classes}
 use Rattle.kt_model.specs.BuiltIns.{built_in_named}
@@ -113,10 +112,7 @@ operation_decided n Null' text apart k = tt
 operation_decided n (Template' texts) text apart k = tt
 operation_decided n (Sign' sign) text apart k = if_decided (k == 1) n _ _
 operation_decided n Sum' text apart k = sum_decided text n k
-operation_decided n (Arithmetic' arithmetic.Subtract) text apart k = sum_decided false n k
-operation_decided n (Arithmetic' arithmetic.Multiply) text apart k = sum_decided false n k
-operation_decided n (Arithmetic' arithmetic.Divide) text apart k = tt
-operation_decided n (Arithmetic' arithmetic.Remainder) text apart k = tt
+operation_decided n (Arithmetic' o) text apart k = sum_decided false n k
 operation_decided n (Compare' c) text apart k = if_decided (k == 2) n _ _
 operation_decided n (Equal' c) text apart k = equality_decided apart n k
 operation_decided n (BuiltIn' name returns) text apart k = call_decided (option_map built_in_signature (built_in_named name)) n k

@@ -1,8 +1,9 @@
 -- Operations on values of the types that they ask for.
-use Rattle.std.proofs.Common.{◌≡◌, ℕ, ℤ, pos, suc, ◌==◌, nat_le, ◌&&◌, Bool, true, false, Option, Some, None, List, [], ◌∷◌, option_map, inl, inr, refl, sym, subst, arith}
+use Rattle.std.proofs.Common.{◌≡◌, ◌⊎◌, ℕ, ℤ, pos, int_eq, suc, ◌==◌, nat_le, ◌&&◌, Bool, true, false, Option, Some, None, List, [], ◌∷◌, option_map, inl, inr, refl, sym, subst, arith}
 use Rattle.std.proofs.lemmas.Bool.{cases_Bool, eqb-true, leb-true, false≢true}
 use Rattle.kt_tree.specs.declared.token.Span.{Span}
 use Rattle.kt_tree.specs.declared.ast.part.Sign.{Sign}
+use Rattle.kt_tree.specs.declared.ast.part.Arithmetic.{Arithmetic}
 use Rattle.kt_tree.specs.declared.ast.part.Arithmetic.TheVariants as arithmetic
 use Rattle.kt_tree.specs.declared.ast.part.Comparison.{Comparison}
 use Rattle.kt_tree.specs.declared.ast.part.Equality.{Equality}
@@ -17,24 +18,27 @@ use Rattle.kt_typing.specs.declared.claims.Claim.TheVariants as claim
 use Rattle.kt_typing.specs.Typing.{Ways, Each, Then, Signature, built_in_signature, TypeContext, LocalTypes, count, demand_if, call_if, call_demand, operation_demand, is_text, first_of, int, boolean, unit, all_judged}
 use Rattle.kt_mean.specs.declared.states.Value.{Value}
 use Rattle.kt_mean.specs.declared.states.Value.TheVariants as value
-use Rattle.kt_mean.specs.Frames.{State, Gave, Run, pure}
-use Rattle.kt_mean.specs.Evaluation.{print, on_one, on_two, arithmetic_of, compared, equal_of, built_in, operated}
+use Rattle.kt_mean.specs.declared.states.Exception.{Exception}
+use Rattle.kt_mean.specs.declared.states.Exception.TheVariants.{DivisionByZero}
+use Rattle.kt_mean.specs.declared.states.Way.TheVariants.{Throw}
+use Rattle.kt_mean.specs.Frames.{State, Gave, Left, Run, pure, leave}
+use Rattle.kt_mean.specs.Evaluation.{choose, print, on_one, on_two, throws, by_divisor, arithmetic_of, compared, equal_of, built_in, operated}
 use Rattle.kt_sound.specs.BodySoundness.{HasBuiltInClasses}
 use Rattle.kt_sound.proofs.NoFinding.{Under}
 use Rattle.kt_sound.proofs.ValueTypes.{Lies, lies_above, int_of, no_texts}
 use Rattle.kt_sound.proofs.BodyStanding.{LiesIn, Gives, AllGive}
 
--- it gives a value of the type, and changes no state
+-- it gives a value of the type and changes no state, or it throws
 pub record Yields (r : Run Value) (d : KtType) : Type 0 where
-  pub at : (s : State) → (v : Value) × (((r s).ending ≡ Gave v s) × Lies v d)
+  pub at : (s : State) → ((v : Value) × (((r s).ending ≡ Gave v s) × Lies v d)) ⊎ ((x : Exception) × ((r s).ending ≡ Left (Throw x) s))
 
 pure_yields : (v : Value) (d : KtType) → Lies v d → Yields (pure v) d
 unfolding pure
-pure_yields v d h = record { at = λ s. (v, (refl, h)) }
+pure_yields v d h = record { at = λ s. inl (v, (refl, h)) }
 
 print_yields : (text : List ℕ) → Yields (print text) unit
 unfolding print
-print_yields text = record { at = λ s. (value.Unit, (refl, refl)) }
+print_yields text = record { at = λ s. inl (value.Unit, (refl, refl)) }
 
 -- a value of the type that a tree has in its way
 pub gives_of : (classes : Classes) → HasBuiltInClasses classes → (way : Way) (found : Option KtType) (d : KtType) (v : Value) → found ≡ Some d → Under classes way d → Lies v d → Gives way found v
@@ -98,11 +102,22 @@ equal_values o fa fb (x ∷ y ∷ z ∷ vs) g = absurd g.1.1
 pub sum_yields : (a b : ℤ) → Yields (operated Sum' (value.Int a ∷ value.Int b ∷ [])) int
 sum_yields a b = pure_yields _ int refl
 
-pub subtract_yields : (a b : ℤ) → Yields (arithmetic_of arithmetic.Subtract a b) int
-subtract_yields a b = pure_yields _ int refl
+throws_yields : (x : Exception) (d : KtType) → Yields (throws x) d
+unfolding leave
+throws_yields x d = record { at = λ s. inr (x, refl) }
 
-pub multiply_yields : (a b : ℤ) → Yields (arithmetic_of arithmetic.Multiply a b) int
-multiply_yields a b = pure_yields _ int refl
+divided_yields : (b n : ℤ) → Yields (by_divisor b (pure (value.Int n))) int
+divided_yields b n = by (int_eq b (pos 0))
+  where
+    by : (is_zero : Bool) → Yields (choose is_zero (throws DivisionByZero) (pure (value.Int n))) int
+    by true = throws_yields DivisionByZero int
+    by false = pure_yields (value.Int n) int refl
+
+pub arithmetic_yields : (o : Arithmetic) (a b : ℤ) → Yields (arithmetic_of o a b) int
+arithmetic_yields arithmetic.Subtract a b = pure_yields _ int refl
+arithmetic_yields arithmetic.Multiply a b = pure_yields _ int refl
+arithmetic_yields arithmetic.Divide a b = divided_yields b _
+arithmetic_yields arithmetic.Remainder a b = divided_yields b _
 
 -- there is no text on the left
 text_left : (fa fb : Option KtType) (vs : List Value) → is_text fa ≡ true → AllGive (Then Inferred (Each Plain)) (fa ∷ fb ∷ []) vs → ⊥
@@ -225,10 +240,7 @@ operation_yields cx n (Template' texts) text apart locals ts d vs i e g = absurd
 operation_yields cx n (Sign' s) text apart locals ts d vs i e g = sign_yields cx n s locals ts d vs e g
 operation_yields cx n Sum' true apart locals ts d vs i e g = absurd (text_parts cx n _ locals ts d vs (i refl) e g)
 operation_yields cx n Sum' false apart locals ts d vs i e g = two_parts cx n _ locals ts d vs sum_yields e g
-operation_yields cx n (Arithmetic' arithmetic.Subtract) text apart locals ts d vs i e g = two_parts cx n _ locals ts d vs subtract_yields e g
-operation_yields cx n (Arithmetic' arithmetic.Multiply) text apart locals ts d vs i e g = two_parts cx n _ locals ts d vs multiply_yields e g
-operation_yields cx n (Arithmetic' arithmetic.Divide) text apart locals ts d vs i e g = absurd (breaks-gives _ _ d e)
-operation_yields cx n (Arithmetic' arithmetic.Remainder) text apart locals ts d vs i e g = absurd (breaks-gives _ _ d e)
+operation_yields cx n (Arithmetic' o) text apart locals ts d vs i e g = two_parts cx n _ locals ts d vs (arithmetic_yields o) e g
 operation_yields cx n (Compare' c) text apart locals ts d vs i e g = compare_yields cx n c locals ts d vs e g
 operation_yields cx n (Equal' o) text true locals ts d vs i e g = absurd (breaks-gives _ _ d e)
 operation_yields cx n (Equal' o) text false locals ts d vs i e g = equal_yields cx n o locals ts d vs e g

@@ -9,7 +9,7 @@ use Rattle.kt_typing.specs.declared.claims.Way.TheVariants.{Unvalued, Plain, Inf
 use Rattle.kt_typing.specs.declared.claims.Claim.TheVariants as claim
 use Rattle.kt_typing.specs.Typing.{TypeContext, LocalTypes, Judgements, have_types, first_of, last_of, branch_way, branch_ways, joined_type, joined_claim, closed, judged, all_judged}
 use Rattle.kt_mean.specs.declared.states.Value.{Value}
-use Rattle.kt_mean.specs.declared.states.Way.TheVariants.{Return}
+use Rattle.kt_mean.specs.declared.states.Way.TheVariants.{Return, Throw}
 use Rattle.kt_mean.specs.Frames.{State, Ending, Gave, Left, Over, Wrong, ◌>>=◌, pure}
 use Rattle.kt_mean.specs.Evaluation.{Program, block_from}
 use Rattle.kt_sound.specs.BodySoundness.{HasBuiltInClasses}
@@ -97,5 +97,6 @@ pub as_given : {p : Program} {cx : TypeContext} (g : Place p cx) (exits : Exits)
     → Post g exits way' found' r → Post g exits way found r
 as_given g exits way way' found found' (Gave v s) says h = (h.0, says v h.1)
 as_given g exits way way' found found' (Left (Return v) s) says h = h
+as_given g exits way way' found found' (Left (Throw x) s) says h = tt
 as_given g exits way way' found found' (Over l) says h = tt
 as_given g exits way way' found found' Wrong says h = h
