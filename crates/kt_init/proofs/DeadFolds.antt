@@ -1,5 +1,5 @@
 -- What is told of the dead trees in each written tree.
-use Rattle.std.proofs.Common.{◌≡◌, ℕ, Bool, true, false, List, [], ◌∷◌, ◌++◌, map, Option, Some, None, option_map, refl, sym, ap, ◌∙◌, subst}
+use Rattle.std.proofs.Common.{◌≡◌, ℕ, Bool, true, false, List, [], ◌∷◌, ◌++◌, map, Option, Some, None, option_map, refl, sym, ap, ◌∙◌, subst, append-nil}
 use Rattle.kt_tree.specs.declared.token.Span.{Span}
 use Rattle.kt_tree.specs.declared.ast.part.Ident.{Ident}
 use Rattle.kt_tree.specs.declared.ast.part.TypeRef.{TypeRef}
@@ -300,3 +300,9 @@ stmt_local_any dead n at m i w None = stmt_local_alone dead n at m i w
 pub stmt_assign_any : (dead : ℕ → Bool) (n : ℕ) (at : Span) (t : Expr) (a : Assignment) (x : Option Expr) → stmt_dead dead (s.Assign n at t a x) ≡ outermost dead n at (expr_dead dead t ++ optional (option_map (expr_dead dead) x))
 stmt_assign_any dead n at t a (Some x) = stmt_assign dead n at t a x
 stmt_assign_any dead n at t a None = stmt_assign_alone dead n at t a
+
+-- a kind without parts tells nothing
+pub ruleset leaves = (append-nil, kind_int, kind_bool, kind_null, kind_this, kind_name, kind_break, kind_continue)
+
+-- a kind with one part, or with two
+pub ruleset operations = (kind_paren, kind_not_null, kind_not, kind_throw, kind_sign, kind_as, kind_as_safe, kind_is, kind_is_not, kind_member, kind_sum, kind_and, kind_or, kind_elvis, kind_arithmetic, kind_compare, kind_equal)

@@ -4,5 +4,6 @@ pub mod Built
 pub mod Push
 pub mod Variables
 pub mod DeadFolds
+pub mod DeadParts
 pub mod Found
 pub mod Marking

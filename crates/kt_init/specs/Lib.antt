@@ -1,3 +1,4 @@
 pub mod Statuses
 pub mod Transfers
 pub mod Marks
+pub mod DeadParts

@@ -3,6 +3,7 @@ ghost use Rattle.std.specs.Prelude.{◌≡◌, ◌++◌, ℕ, Bool, map, option_
 ghost use Rattle.std.specs.Option.{option_copied};
 ghost use Rattle.kt_model.specs.DeadTrees.{block_dead, body_dead, branch_dead, catch_dead, condition_dead, expr_dead, joined, kind_dead, lambda_dead, optional, owner_dead, piece_dead, stmt_dead, subject_dead, when_dead, written_dead};
 ghost use Rattle.kt_init.specs.Marks.{dead_by, told_if};
+ghost use Rattle.kt_init.specs.DeadParts.{compound_dead, parts_dead};
 
 use crate::marks::Marks;
 use kt_model::dead::{Dead, DeadList};
@@ -40,56 +41,54 @@ fn expr(marks: &Marks, found: &mut DeadList, e: &Expr) -> Result<(), NoMemory>
 
 /// Tells what is dead in the parts of an expression.
 #[cycle(dead)]
+#[tactic(auto, using(crate::proofs::DeadFolds::leaves))]
 fn kind(marks: &Marks, found: &mut DeadList, k: &ExprKind) -> Result<(), NoMemory>
     ensures { OnOk result (found.new ≡ found.old ++ kind_dead (dead_by marks.now) k.now) }
 {
     match k {
-        ExprKind::Int(_) => Ok(()),
-        ExprKind::Bool(_) => Ok(()),
-        ExprKind::Null => Ok(()),
-        ExprKind::This => Ok(()),
-        ExprKind::Name(_) => Ok(()),
-        ExprKind::Break => Ok(()),
-        ExprKind::Continue => Ok(()),
+        ExprKind::Int(_)
+        | ExprKind::Bool(_)
+        | ExprKind::Null
+        | ExprKind::This
+        | ExprKind::Name(_)
+        | ExprKind::Break
+        | ExprKind::Continue => Ok(()),
         ExprKind::Template(parts) => pieces(marks, found, parts.as_slice()),
-        ExprKind::Paren(a) => expr(marks, found, a.get()),
-        ExprKind::Member { receiver, .. } => expr(marks, found, receiver.get()),
-        ExprKind::NotNull(a) => expr(marks, found, a.get()),
-        ExprKind::Sign(_, a) => expr(marks, found, a.get()),
-        ExprKind::Not(a) => expr(marks, found, a.get()),
-        ExprKind::As(a, _) => expr(marks, found, a.get()),
-        ExprKind::AsSafe(a, _) => expr(marks, found, a.get()),
-        ExprKind::Is(a, _) => expr(marks, found, a.get()),
-        ExprKind::IsNot(a, _) => expr(marks, found, a.get()),
-        ExprKind::Throw(a) => expr(marks, found, a.get()),
-        ExprKind::Sum(a, b) => {
+        ExprKind::Paren(a)
+        | ExprKind::NotNull(a)
+        | ExprKind::Not(a)
+        | ExprKind::Throw(a)
+        | ExprKind::Sign(_, a)
+        | ExprKind::As(a, _)
+        | ExprKind::AsSafe(a, _)
+        | ExprKind::Is(a, _)
+        | ExprKind::IsNot(a, _)
+        | ExprKind::Member { receiver: a, .. } => expr(marks, found, a.get()),
+        ExprKind::Return { value, .. } => value_of(marks, found, value),
+        ExprKind::Sum(a, b)
+        | ExprKind::And(a, b)
+        | ExprKind::Or(a, b)
+        | ExprKind::Elvis(a, b)
+        | ExprKind::Arithmetic(_, a, b)
+        | ExprKind::Compare(_, a, b)
+        | ExprKind::Equal(_, a, b) => {
             expr(marks, found, a.get())?;
             expr(marks, found, b.get())
         }
-        ExprKind::Arithmetic(_, a, b) => {
-            expr(marks, found, a.get())?;
-            expr(marks, found, b.get())
-        }
-        ExprKind::Compare(_, a, b) => {
-            expr(marks, found, a.get())?;
-            expr(marks, found, b.get())
-        }
-        ExprKind::Equal(_, a, b) => {
-            expr(marks, found, a.get())?;
-            expr(marks, found, b.get())
-        }
-        ExprKind::And(a, b) => {
-            expr(marks, found, a.get())?;
-            expr(marks, found, b.get())
-        }
-        ExprKind::Or(a, b) => {
-            expr(marks, found, a.get())?;
-            expr(marks, found, b.get())
-        }
-        ExprKind::Elvis(a, b) => {
-            expr(marks, found, a.get())?;
-            expr(marks, found, b.get())
-        }
+        ExprKind::Call { .. }
+        | ExprKind::MemberCall { .. }
+        | ExprKind::If { .. }
+        | ExprKind::When { .. }
+        | ExprKind::Try { .. } => compound(marks, found, k),
+    }
+}
+
+/// Tells what is dead in the parts of a call, an `if`, a `when` or a `try`; nothing of other kinds.
+#[cycle(dead)]
+fn compound(marks: &Marks, found: &mut DeadList, k: &ExprKind) -> Result<(), NoMemory>
+    ensures { OnOk result (found.new ≡ found.old ++ compound_dead (dead_by marks.now) k.now) }
+{
+    match k {
         ExprKind::Call {
             arguments,
             lambda,
@@ -128,7 +127,7 @@ fn kind(marks: &Marks, found: &mut DeadList, k: &ExprKind) -> Result<(), NoMemor
             caught(marks, found, catches.as_slice())?;
             last(marks, found, finally)
         }
-        ExprKind::Return { value, .. } => value_of(marks, found, value),
+        _ => Ok(()),
     }
 }
 
@@ -340,77 +339,61 @@ fn caught(marks: &Marks, found: &mut DeadList, catches: &[Catch]) -> Result<(), 
     Ok(())
 }
 
-/// Tells what is dead in a statement.
+/// Tells what is dead in a statement. An expression is the same tree as the statement.
 #[cycle(dead)]
 fn stmt(marks: &Marks, found: &mut DeadList, s: &Stmt) -> Result<(), NoMemory>
     ensures { OnOk result (found.new ≡ found.old ++ stmt_dead (dead_by marks.now) s.now) }
 {
     match s {
         Stmt::Expr(e) => expr(marks, found, e),
-        Stmt::Local {
-            number,
-            span,
-            value,
-            ..
-        } => {
+        Stmt::Local { number, span, .. }
+        | Stmt::Assign { number, span, .. }
+        | Stmt::While { number, span, .. }
+        | Stmt::DoWhile { number, span, .. }
+        | Stmt::For { number, span, .. } => {
             let dead = tell(marks, found, *number, *span)?;
             if dead {
                 return Ok(());
             }
-            initial(marks, found, value)
+            parts(marks, found, s)
         }
-        Stmt::Assign {
-            number,
-            span,
-            target,
-            value,
-            ..
-        } => {
-            let dead = tell(marks, found, *number, *span)?;
-            if dead {
-                return Ok(());
-            }
+    }
+}
+
+/// Tells what is dead in the parts of a statement.
+#[cycle(dead)]
+fn parts(marks: &Marks, found: &mut DeadList, s: &Stmt) -> Result<(), NoMemory>
+    ensures { OnOk result (found.new ≡ found.old ++ parts_dead (dead_by marks.now) s.now) }
+{
+    match s {
+        Stmt::Expr(e) => expr(marks, found, e),
+        Stmt::Local { value, .. } => initial(marks, found, value),
+        Stmt::Assign { target, value, .. } => {
             expr(marks, found, target)?;
             initial(marks, found, value)
         }
         Stmt::While {
-            number,
-            span,
             condition,
             body,
+            ..
         } => {
-            let dead = tell(marks, found, *number, *span)?;
-            if dead {
-                return Ok(());
-            }
             expr(marks, found, condition)?;
             branch(marks, found, body.get())
         }
         Stmt::DoWhile {
-            number,
-            span,
             body,
             condition,
+            ..
         } => {
-            let dead = tell(marks, found, *number, *span)?;
-            if dead {
-                return Ok(());
-            }
             block(marks, found, body)?;
             expr(marks, found, condition)
         }
         Stmt::For {
-            number,
-            span,
             low,
             high,
             body,
             ..
         } => {
-            let dead = tell(marks, found, *number, *span)?;
-            if dead {
-                return Ok(());
-            }
             expr(marks, found, low)?;
             expr(marks, found, high)?;
             branch(marks, found, body.get())

@@ -181,6 +181,11 @@ expr_of_kind x = fold-roll-Expr Events (Unit {0}) SeenEventsKind Events Events E
 pub events_by : (x : Expr) {k : ExprKind} {f : SeenEventsKind} → x.kind ≡ k → seen_events_kind k ≡ f → expr_events x ≡ f.at x.number x.span
 events_by x e step = ap (λ (y : SeenEvents). y.events) (expr_of_kind x) ∙ ap (λ j. (seen_events_kind j).at x.number x.span) e ∙ ap (λ (g : SeenEventsKind). g.at x.number x.span) step
 
+-- with one operand, and with two
+pub ruleset of_one = (kind_paren, kind_not, kind_throw, kind_sign)
+
+pub ruleset of_two = (kind_sum, kind_arithmetic, kind_compare, kind_equal, kind_and, kind_or)
+
 -- its name where it is a name alone
 pub name_by : (x : Expr) {k : ExprKind} {f : SeenEventsKind} → x.kind ≡ k → seen_events_kind k ≡ f → (seen_events x).name ≡ option_map (λ y. ident y x.span) f.name
 name_by x e step = ap (λ (y : SeenEvents). y.name) (expr_of_kind x) ∙ ap (λ j. option_map (λ y. ident y x.span) (seen_events_kind j).name) e ∙ ap (λ (g : SeenEventsKind). option_map (λ y. ident y x.span) g.name) step

@@ -1,15 +1,15 @@
 //! The walk over bodies that lists what happens to names.
 ghost use Rattle.std.specs.Prelude.{◌≡◌, ◌++◌, ◌∷◌, [], OnOk, IfOk, option_map};
 ghost use Rattle.std.specs.List.{flat_map};
-ghost use Rattle.kt_model.specs.declared.name_events.NameEvent.TheVariants.{Calls, Opens, Closes};
-ghost use Rattle.kt_model.specs.NameEvents.{seen_events, expr_events, stmt_events, block_events, branch_events, piece_events, if_written, if_there, left_events, parameter_events, body_events, function_events};
+ghost use Rattle.kt_model.specs.declared.name_events.NameEvent.TheVariants.{Reads, Calls, Opens, Closes};
+ghost use Rattle.kt_model.specs.NameEvents.{ident, seen_events, expr_events, stmt_events, block_events, branch_events, piece_events, if_written, if_there, left_events, parameter_events, body_events, function_events};
 
 use kt_model::name_events::NameEvent;
-use kt_tree::NoMemory;
 use kt_tree::ast::{
     Block, Branch, Expr, ExprKind, FunctionBody, FunctionDecl, Ident, Parameter, ParameterType,
     Stmt, StringPart,
 };
+use kt_tree::{NoMemory, Span};
 use sqlite_items::Boxed;
 use std::alloc::Global;
 
@@ -23,48 +23,31 @@ fn put(event: NameEvent, out: &mut Events) -> Result<(), NoMemory>
     Ok(())
 }
 
+/// Adds that a name is read.
+fn in_name(tree: u32, name: u32, span: Span, out: &mut Events) -> Result<(), NoMemory>
+    ensures { OnOk result (out.new.items ≡ out.old.items ++ Reads tree (ident name span) ∷ []) }
+{
+    let name = Ident { name, span };
+    put(NameEvent::Reads { tree, name }, out)
+}
+
 /// Adds those of an expression.
 #[cycle(events)]
 pub(crate) fn in_expr(e: &Expr, out: &mut Events) -> Result<(), NoMemory>
     ensures { OnOk result (out.new.items ≡ out.old.items ++ expr_events e.now) }
 {
     match &e.kind {
-        ExprKind::Name(name) => put(
-            NameEvent::Reads {
-                tree: e.number,
-                name: Ident {
-                    name: *name,
-                    span: e.span,
-                },
-            },
-            out,
-        ),
+        ExprKind::Name(name) => in_name(e.number, *name, e.span, out),
         ExprKind::Template(pieces) => in_pieces(pieces.as_slice(), out),
-        ExprKind::Paren(a) => in_expr(a.get(), out),
-        ExprKind::Not(a) => in_expr(a.get(), out),
-        ExprKind::Throw(a) => in_expr(a.get(), out),
-        ExprKind::Sign(_, a) => in_expr(a.get(), out),
-        ExprKind::Sum(a, b) => {
-            in_expr(a.get(), out)?;
-            in_expr(b.get(), out)
+        ExprKind::Paren(a) | ExprKind::Not(a) | ExprKind::Throw(a) | ExprKind::Sign(_, a) => {
+            in_expr(a.get(), out)
         }
-        ExprKind::Arithmetic(_, a, b) => {
-            in_expr(a.get(), out)?;
-            in_expr(b.get(), out)
-        }
-        ExprKind::Compare(_, a, b) => {
-            in_expr(a.get(), out)?;
-            in_expr(b.get(), out)
-        }
-        ExprKind::Equal(_, a, b) => {
-            in_expr(a.get(), out)?;
-            in_expr(b.get(), out)
-        }
-        ExprKind::And(a, b) => {
-            in_expr(a.get(), out)?;
-            in_expr(b.get(), out)
-        }
-        ExprKind::Or(a, b) => {
+        ExprKind::Sum(a, b)
+        | ExprKind::Arithmetic(_, a, b)
+        | ExprKind::Compare(_, a, b)
+        | ExprKind::Equal(_, a, b)
+        | ExprKind::And(a, b)
+        | ExprKind::Or(a, b) => {
             in_expr(a.get(), out)?;
             in_expr(b.get(), out)
         }

@@ -1,4 +1,5 @@
--- Each call in a body is of a function of the file or of a built-in one, and returns unless its function's result is `Nothing`; each parameter has a written type.
+-- Each call in a body is of a function of the file or of a built-in one, and returns unless the function's result is `Nothing`. Each parameter has a written
+-- type.
 use Rattle.std.proofs.Common.{◌≡◌, ◌&&◌, ℕ, not, Bool, true, false, Contains, Option, Some, None, IsSome, option_map, slice_get, refl, sym, ap, subst, ◌∙◌}
 use Rattle.std.specs.List.{All}
 use Rattle.std.proofs.lemmas.Bool.{false≢true}

@@ -27,7 +27,7 @@ pub record IsBodyAccepted (file : File) (uses : Resolved) (place : ℕ) : Type 0
   pub flows : (f : Finding) → IsPathViolated file uses (owner.Function place) f → ⊥
   pub entered : SettlesEntered (owner_parameters uses (owner.Function place)) (owner_trees file uses (owner.Function place))
 
--- The names of a file are resolved, no rule on members is violated in it, by which each of its functions has a body, it has a `main`, and each body is accepted.
+-- The names of a file are resolved, no rule on members is violated, by which each function has a body, it has a `main`, and each of its bodies is accepted.
 pub record AreBodiesAccepted (file : File) (uses : Resolved) (main : ℕ) : Type 0 where
   pub resolved : IsResolved file uses
   pub members : (f : Finding) → IsMisdeclared file f → ⊥

@@ -1,15 +1,15 @@
-use Rattle.std.proofs.Common.{◌≡◌, ◌++◌, ◌∷◌, [], ap, sym, ◌∙◌, refl, option_map, append_assoc, None, Some}
+use Rattle.std.proofs.Common.{◌≡◌, ◌++◌, ◌∷◌, [], ap, sym, ◌∙◌, refl, option_map, append_assoc, None, Some, arith}
 use Rattle.std.specs.List.{flat_map}
 use Rattle.kt_tree.specs.declared.ast.body.ExprKind.TheVariants as e
 use Rattle.kt_model.specs.declared.name_events.NameEvent.TheVariants.{Calls, Opens, Closes, Local}
-use Rattle.kt_model.specs.NameEvents.{expr_events, stmt_events, block_events, branch_events, piece_events, seen_events, if_written, if_there, left_events}
+use Rattle.kt_model.specs.NameEvents.{within, seen_events_kind, expr_events, stmt_events, block_events, branch_events, piece_events, seen_events, if_written, if_there, left_events}
 use Rattle.kt_scope.proofs.EventFolds as fold
 use Rattle.kt_scope.proofs.Puts.{put_in, put_both, put_three, put_none}
 use Rattle.kt_scope.proofs.events.+events.Goals as goal
 
 pub in_expr-returns-in-Name : goal.in_expr-returns-in-Name
 in_expr-returns-in-Name t c =
-    put_in c.put.result _ _ (fold.events_by c.args.e.now c.in-Name.is (fold.kind_name _)) c.put.ensures
+    put_in c.in_name.result _ _ (fold.events_by c.args.e.now c.in-Name.is (fold.kind_name _)) c.in_name.ensures
 
 pub in_expr-returns-in-Template : goal.in_expr-returns-in-Template
 in_expr-returns-in-Template t c =
@@ -17,43 +17,13 @@ in_expr-returns-in-Template t c =
 
 pub in_expr-returns-in-Paren : goal.in_expr-returns-in-Paren
 in_expr-returns-in-Paren t c =
-    put_in c.in_expr.result _ _ (fold.events_by c.args.e.now c.in-Paren.is (fold.kind_paren _) ∙ ap expr_events (sym c.get.ensures)) c.in_expr.ensures
-
-pub in_expr-returns-in-Not : goal.in_expr-returns-in-Not
-in_expr-returns-in-Not t c =
-    put_in c.in_expr-in-Not.result _ _ (fold.events_by c.args.e.now c.in-Not.is (fold.kind_not _) ∙ ap expr_events (sym c.get-in-Not.ensures)) c.in_expr-in-Not.ensures
-
-pub in_expr-returns-in-Throw : goal.in_expr-returns-in-Throw
-in_expr-returns-in-Throw t c =
-    put_in c.in_expr-in-Throw.result _ _ (fold.events_by c.args.e.now c.in-Throw.is (fold.kind_throw _) ∙ ap expr_events (sym c.get-in-Throw.ensures)) c.in_expr-in-Throw.ensures
-
-pub in_expr-returns-in-Sign : goal.in_expr-returns-in-Sign
-in_expr-returns-in-Sign t c =
-    put_in c.in_expr-in-Sign.result _ _ (fold.events_by c.args.e.now c.in-Sign.is (fold.kind_sign _ _) ∙ ap expr_events (sym c.get-in-Sign.ensures)) c.in_expr-in-Sign.ensures
+    let one : seen_events_kind c.args.e.now.kind ≡ within (expr_events c.in-Paren.a) = grind (arith, fold.of_one) in
+    put_in c.in_expr-in-Paren.result _ _ (fold.events_by c.args.e.now refl one ∙ ap expr_events (sym c.get-in-Paren.ensures)) c.in_expr-in-Paren.ensures
 
 pub in_expr-returns-in_ok-in_expr-in-Sum : goal.in_expr-returns-in_ok-in_expr-in-Sum
 in_expr-returns-in_ok-in_expr-in-Sum t c =
-    put_both c.in_expr-in-Sum-2.result _ _ c.in_expr-in-Sum.new.out.items _ _ (fold.events_by c.args.e.now c.in-Sum.is (fold.kind_sum _ _) ∙ ap (λ x. expr_events x ++ expr_events c.in-Sum.b) (sym c.get-in-Sum.ensures) ∙ ap (λ x. expr_events c.get-in-Sum.result.now ++ expr_events x) (sym c.get-in-Sum-2.ensures)) c.in_ok-in_expr-in-Sum.ensures c.in_expr-in-Sum-2.ensures
-
-pub in_expr-returns-in_ok-in_expr-in-Arithmetic : goal.in_expr-returns-in_ok-in_expr-in-Arithmetic
-in_expr-returns-in_ok-in_expr-in-Arithmetic t c =
-    put_both c.in_expr-in-Arithmetic-2.result _ _ c.in_expr-in-Arithmetic.new.out.items _ _ (fold.events_by c.args.e.now c.in-Arithmetic.is (fold.kind_arithmetic _ _ _) ∙ ap (λ x. expr_events x ++ expr_events c.in-Arithmetic.b) (sym c.get-in-Arithmetic.ensures) ∙ ap (λ x. expr_events c.get-in-Arithmetic.result.now ++ expr_events x) (sym c.get-in-Arithmetic-2.ensures)) c.in_ok-in_expr-in-Arithmetic.ensures c.in_expr-in-Arithmetic-2.ensures
-
-pub in_expr-returns-in_ok-in_expr-in-Compare : goal.in_expr-returns-in_ok-in_expr-in-Compare
-in_expr-returns-in_ok-in_expr-in-Compare t c =
-    put_both c.in_expr-in-Compare-2.result _ _ c.in_expr-in-Compare.new.out.items _ _ (fold.events_by c.args.e.now c.in-Compare.is (fold.kind_compare _ _ _) ∙ ap (λ x. expr_events x ++ expr_events c.in-Compare.b) (sym c.get-in-Compare.ensures) ∙ ap (λ x. expr_events c.get-in-Compare.result.now ++ expr_events x) (sym c.get-in-Compare-2.ensures)) c.in_ok-in_expr-in-Compare.ensures c.in_expr-in-Compare-2.ensures
-
-pub in_expr-returns-in_ok-in_expr-in-Equal : goal.in_expr-returns-in_ok-in_expr-in-Equal
-in_expr-returns-in_ok-in_expr-in-Equal t c =
-    put_both c.in_expr-in-Equal-2.result _ _ c.in_expr-in-Equal.new.out.items _ _ (fold.events_by c.args.e.now c.in-Equal.is (fold.kind_equal _ _ _) ∙ ap (λ x. expr_events x ++ expr_events c.in-Equal.b) (sym c.get-in-Equal.ensures) ∙ ap (λ x. expr_events c.get-in-Equal.result.now ++ expr_events x) (sym c.get-in-Equal-2.ensures)) c.in_ok-in_expr-in-Equal.ensures c.in_expr-in-Equal-2.ensures
-
-pub in_expr-returns-in_ok-in_expr-in-And : goal.in_expr-returns-in_ok-in_expr-in-And
-in_expr-returns-in_ok-in_expr-in-And t c =
-    put_both c.in_expr-in-And-2.result _ _ c.in_expr-in-And.new.out.items _ _ (fold.events_by c.args.e.now c.in-And.is (fold.kind_and _ _) ∙ ap (λ x. expr_events x ++ expr_events c.in-And.b) (sym c.get-in-And.ensures) ∙ ap (λ x. expr_events c.get-in-And.result.now ++ expr_events x) (sym c.get-in-And-2.ensures)) c.in_ok-in_expr-in-And.ensures c.in_expr-in-And-2.ensures
-
-pub in_expr-returns-in_ok-in_expr-in-Or : goal.in_expr-returns-in_ok-in_expr-in-Or
-in_expr-returns-in_ok-in_expr-in-Or t c =
-    put_both c.in_expr-in-Or-2.result _ _ c.in_expr-in-Or.new.out.items _ _ (fold.events_by c.args.e.now c.in-Or.is (fold.kind_or _ _) ∙ ap (λ x. expr_events x ++ expr_events c.in-Or.b) (sym c.get-in-Or.ensures) ∙ ap (λ x. expr_events c.get-in-Or.result.now ++ expr_events x) (sym c.get-in-Or-2.ensures)) c.in_ok-in_expr-in-Or.ensures c.in_expr-in-Or-2.ensures
+    let two : seen_events_kind c.args.e.now.kind ≡ within (expr_events c.in-Sum.a ++ expr_events c.in-Sum.b) = grind (arith, fold.of_two) in
+    put_both c.in_expr-in-Sum-2.result _ _ c.in_expr-in-Sum.new.out.items _ _ (fold.events_by c.args.e.now refl two ∙ ap (λ x. expr_events x ++ expr_events c.in-Sum.b) (sym c.get-in-Sum.ensures) ∙ ap (λ x. expr_events c.get-in-Sum.result.now ++ expr_events x) (sym c.get-in-Sum-2.ensures)) c.in_ok-in_expr-in-Sum.ensures c.in_expr-in-Sum-2.ensures
 
 pub in_expr-returns-in-None : goal.in_expr-returns-in-None
 in_expr-returns-in-None t c =
@@ -65,7 +35,7 @@ in_expr-returns-in-Some t c =
 
 pub in_expr-returns-in_ok-in_branch-in-If : goal.in_expr-returns-in_ok-in_branch-in-If
 in_expr-returns-in_ok-in_branch-in-If t c =
-    put_three c.in_otherwise.result _ _ c.in_expr-in-If.new.out.items c.in_branch.new.out.items _ _ _ (fold.events_by c.args.e.now c.in-If.is (fold.kind_if_any c.in-If.condition c.in-If.then c.in-If.otherwise) ∙ ap (λ x. expr_events x ++ branch_events c.in-If.then ++ if_there (option_map branch_events c.in-If.otherwise)) (sym c.get-in-If.ensures) ∙ ap (λ x. expr_events c.get-in-If.result.now ++ branch_events x ++ if_there (option_map branch_events c.in-If.otherwise)) (sym c.get-in-If-2.ensures) ∙ append_assoc (expr_events c.get-in-If.result.now) (branch_events c.get-in-If-2.result.now) (if_there (option_map branch_events c.in-If.otherwise))) c.in_ok-in_expr-in-If.ensures c.in_ok-in_branch-in-If.ensures c.in_otherwise.ensures
+    put_three c.in_otherwise.result _ _ c.in_expr.new.out.items c.in_branch.new.out.items _ _ _ (fold.events_by c.args.e.now c.in-If.is (fold.kind_if_any c.in-If.condition c.in-If.then c.in-If.otherwise) ∙ ap (λ x. expr_events x ++ branch_events c.in-If.then ++ if_there (option_map branch_events c.in-If.otherwise)) (sym c.get.ensures) ∙ ap (λ x. expr_events c.get.result.now ++ branch_events x ++ if_there (option_map branch_events c.in-If.otherwise)) (sym c.get-in-If.ensures) ∙ append_assoc (expr_events c.get.result.now) (branch_events c.get-in-If.result.now) (if_there (option_map branch_events c.in-If.otherwise))) c.in_ok-in_expr-in-If.ensures c.in_ok-in_branch-in-If.ensures c.in_otherwise.ensures
 
 pub in_expr-returns-in-None-label : goal.in_expr-returns-in-None-label
 in_expr-returns-in-None-label t c =
