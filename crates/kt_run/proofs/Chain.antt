@@ -166,7 +166,11 @@ err_is : {B : Type 0} (q : Result B Halt) (k : Halt) → IsErrAnd q (λ y. y ≡
 err_is (Ok b) k i = absurd i
 err_is (Err h) k i = ap (λ y. Err y) i
 
--- the same behind a `?`
+-- an error behind a `?`
+pub error_by : {A : Type 0} (p : Run A) (s t : Scene) (k : Halt) (q : Result A Halt) → IsErrAnd q (λ y. y ≡ k) → Runs p s (Err k) t → Runs p s q t
+error_by {A} p s t k q i h = subst (λ (x : Result A Halt). Runs p s x t) (sym (err_is q k i)) h
+
+-- the same of a part behind a `?`
 pub exit_by : {A B : Type 0} (p : Run A) (f : A → Run B) (s t : Scene) (k : Halt) (q : Result B Halt) → IsErrAnd q (λ y. y ≡ k) → Runs p s (Err k) t → Runs (p >>= f) s q t
 exit_by {A} {B} p f s t k q i h = subst (λ (x : Result B Halt). Runs (p >>= f) s x t) (sym (err_is q k i)) (exit_runs p f s k t h)
 

@@ -1,6 +1,6 @@
 use Rattle.std.proofs.Common.{Ok}
 use Rattle.kt_mean.specs.declared.states.Value.{Value}
-use Rattle.kt_run.proofs.Chain.{first_right, next_right, then_runs, exit_by, same_right}
+use Rattle.kt_run.proofs.Chain.{first_right, next_right, then_runs, error_by, exit_by, same_right}
 use Rattle.kt_run.specs.Scene.{scene}
 use Rattle.kt_run.proofs.Steps.{makes_some, makes_runs, makes_leave, operated_two}
 use Rattle.kt_run.proofs.evaluator.Evaluator.binary.Goals as goal
@@ -29,7 +29,7 @@ returns-in_err-value g c =
     let here = scene c.boxed-2.new.state (g.O.Output.state c.boxed-2.new.out) in
     then_runs {B = Value} _ _ _ _ _ _ here c.in_ok-left.ensures
     (then_runs {B = Value} _ _ _ _ here _ here c.in_ok-right.ensures
-    (makes_leave _ _ _ here (operated_two c.args.operator c.in_ok-left.left c.in_ok-right.right) c.in_err-value.ensures))
+    (error_by _ here here _ _ c.from_residual-in_err-value.ensures.1 (makes_leave _ _ _ here (operated_two c.args.operator c.in_ok-left.left c.in_ok-right.right) c.in_err-value.ensures)))
 
 pub returns : goal.returns
 returns g c =
