@@ -1,6 +1,8 @@
 -- How many nodes a tree adds, and how counts go together.
 use Rattle.std.proofs.Common.{◌<◌, ◌≤◌, ◌*◌, ◌^◌, ◌⊎◌, inl, inr, ◌≡◌, ℕ, suc, ◌+◌, min, List, [], ◌∷◌, ◌++◌, length, Bool, true, false, refl, sym, ap, ◌∙◌, arith, length-append, zero-add, add-zero}
-use Rattle.kt_model.specs.BodyTrees.{Piece, Text', Inserted', inserted_of, Tree, Trees, Operation', Name', Paren', Not', And', Or', If', Declare', Local', Assign', Compound', Call', Return', Throw', Shut', Empty', First'}
+use Rattle.kt_tree.specs.declared.ast.body.Expr.{Expr}
+use Rattle.kt_model.specs.declared.uses.Named.{Named}
+use Rattle.kt_model.specs.BodyTrees.{expr_tree, Piece, Text', Inserted', inserted_of, Tree, Trees, Operation', Name', Paren', Not', And', Or', If', Declare', Local', Assign', Compound', Call', Return', Throw', Shut', Empty', First'}
 use Rattle.kt_model.specs.ControlFlow.{Node, nodes, all_nodes, leave_nodes, out_of, body_nodes, end_node}
 use Rattle.kt_model.specs.Bodies.{IsTooLarge}
 use Rattle.kt_graph.specs.Sizes.{size, all_size, own_size, capped, Adds}
@@ -58,6 +60,10 @@ counted b e h = h ∙ sym (ap (λ t. capped (size b t)) e)
 
 pub all_counted : {r : ℕ} {t u : Trees} → u ≡ t → r ≡ capped (all_size t) → r ≡ capped (all_size u)
 all_counted e h = h ∙ sym (ap (λ t. capped (all_size t)) e)
+
+-- the count of an expression that stands in a box
+pub expr_counted : (uses : ℕ → Named) (b : Bool) {r : ℕ} {x y : Expr} → x ≡ y → r ≡ capped (size b (expr_tree uses x)) → r ≡ capped (size b (expr_tree uses y))
+expr_counted uses b e h = counted b (ap (expr_tree uses) (sym e)) h
 
 -- one part
 pub count_one : {r : ℕ} (t : Tree) → r ≡ capped (size false t) → r ≡ capped (all_size (First' t Empty'))

@@ -1,5 +1,6 @@
 -- What is added for each kind of tree is its graph.
 use Rattle.std.proofs.Common.{◌≡◌, ℕ, suc, ◌+◌, ◌*◌, ◌<◌, length, get_or, drop, drop-cons, List, [], ◌∷◌, ◌++◌, map, Option, Some, None, Bool, true, false, refl, sym, ap, ◌∙◌, subst, append-nil, reverse, arith}
+use Rattle.std.specs.Prelude.{Result, Ok, Err, IfOk}
 use Rattle.kt_tree.specs.declared.token.Span.{Span}
 use Rattle.kt_model.specs.declared.graph.Tag.{Tag}
 use Rattle.kt_model.specs.declared.graph.Known.TheVariants as known
@@ -39,6 +40,11 @@ steps_effects a b n o t es fs c to e w = subst (λ l. StepsTo a b (node n t c.co
 
 pub leaves_at : {a b : Builder} {n o : ℕ} {es : Effects} (c : FlowContext) {ex lead : Exits} → ex ≡ lead → Leaves a b n es c lead o → Leaves a b n es c ex o
 leaves_at {a} {b} {n} {o} {es} c {ex} {lead} e w = subst (λ r. Leaves a b n es c r o) (sym e) w
+
+-- the graph of a tree under another name, where the last addition gives its number or fails
+pub walked : {E : Type 0} {a b : Builder} {t u : Tree} {c : FlowContext} {ex : Exits} {P : ℕ → Type 0} (r : Result ℕ E) → u ≡ t → IfOk r P → ((n : ℕ) → P n → WalksTree a b t c ex n) → IfOk r (λ n. WalksTree a b u c ex n)
+walked (Ok n) e h f = same_tree e (f n h)
+walked (Err x) e h f = tt
 
 -- ---- what a tree itself adds
 

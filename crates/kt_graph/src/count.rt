@@ -43,19 +43,10 @@ pub fn expr(uses: &Uses, branching: bool, e: &Expr) -> u32
     ensures { result ≡ capped (size branching (expr_tree (named_at uses.now) e.now)) }
 {
     match &e.kind {
-        ExprKind::Int(_) => own(branching),
-        ExprKind::Bool(_) => own(branching),
-        ExprKind::Null => own(branching),
+        ExprKind::Int(_) | ExprKind::Bool(_) | ExprKind::Null => own(branching),
         ExprKind::Name(_) => name(uses, branching, e.number),
-        ExprKind::Template(parts) => {
-            let parts = pieces(uses, parts.as_slice());
-            let own = own(branching);
-            add(own, parts)
-        }
-        ExprKind::Paren(a) => {
-            let a = expr(uses, branching, a.get());
-            add(2, a)
-        }
+        ExprKind::Template(parts) => add(own(branching), pieces(uses, parts.as_slice())),
+        ExprKind::Paren(a) => add(2, expr(uses, branching, a.get())),
         ExprKind::Call {
             callee: _,
             arguments,
@@ -64,79 +55,32 @@ pub fn expr(uses: &Uses, branching: bool, e: &Expr) -> u32
             None => call(uses, branching, e.number, arguments.as_slice()),
             Some(_) => 1,
         },
-        ExprKind::Sign(_, a) => {
-            let a = expr(uses, false, a.get());
-            let own = own(branching);
-            add(own, a)
+        ExprKind::Sign(_, a) => add(own(branching), expr(uses, false, a.get())),
+        ExprKind::Not(a) => add(2, expr(uses, true, a.get())),
+        ExprKind::Sum(a, b)
+        | ExprKind::Arithmetic(_, a, b)
+        | ExprKind::Compare(_, a, b)
+        | ExprKind::Equal(_, a, b) => {
+            let parts = add(expr(uses, false, a.get()), expr(uses, false, b.get()));
+            add(own(branching), parts)
         }
-        ExprKind::Not(a) => {
-            let a = expr(uses, true, a.get());
-            add(2, a)
-        }
-        ExprKind::Sum(a, b) => {
-            let a = expr(uses, false, a.get());
-            let b = expr(uses, false, b.get());
-            let parts = add(a, b);
-            let own = own(branching);
-            add(own, parts)
-        }
-        ExprKind::Arithmetic(_, a, b) => {
-            let a = expr(uses, false, a.get());
-            let b = expr(uses, false, b.get());
-            let parts = add(a, b);
-            let own = own(branching);
-            add(own, parts)
-        }
-        ExprKind::Compare(_, a, b) => {
-            let a = expr(uses, false, a.get());
-            let b = expr(uses, false, b.get());
-            let parts = add(a, b);
-            let own = own(branching);
-            add(own, parts)
-        }
-        ExprKind::Equal(_, a, b) => {
-            let a = expr(uses, false, a.get());
-            let b = expr(uses, false, b.get());
-            let parts = add(a, b);
-            let own = own(branching);
-            add(own, parts)
-        }
-        ExprKind::And(a, b) => {
-            let a = expr(uses, true, a.get());
-            let b = expr(uses, true, b.get());
-            let parts = add(a, b);
-            add(2, parts)
-        }
-        ExprKind::Or(a, b) => {
-            let a = expr(uses, true, a.get());
-            let b = expr(uses, true, b.get());
-            let parts = add(a, b);
-            add(2, parts)
+        ExprKind::And(a, b) | ExprKind::Or(a, b) => {
+            add(2, add(expr(uses, true, a.get()), expr(uses, true, b.get())))
         }
         ExprKind::If {
             condition,
             then,
             otherwise,
         } => {
-            let c = expr(uses, true, condition.get());
-            let a = branch(uses, then.get());
-            let b = alternative(uses, otherwise);
-            let branches = add(a, b);
-            let parts = add(c, branches);
-            let own = own(branching);
-            add(own, parts)
+            let branches = add(branch(uses, then.get()), alternative(uses, otherwise));
+            let parts = add(expr(uses, true, condition.get()), branches);
+            add(own(branching), parts)
         }
         ExprKind::Return { label, value } => match label {
-            None => {
-                let value = optional(uses, value);
-                add(2, value)
-            }
+            None => add(2, optional(uses, value)),
             Some(_) => 1,
         },
-        ExprKind::Throw(a) => {
-            let a = expr(uses, false, a.get());
-            add(2, a)
-        }
+        ExprKind::Throw(a) => add(2, expr(uses, false, a.get())),
         _ => 1,
     }
 }

@@ -5,6 +5,7 @@ ghost use Rattle.kt_model.specs.NameUses.{named_at};
 ghost use Rattle.kt_model.specs.BodyTrees.{expr_tree, branch_trees, piece, seen, seen_trees, inserted_of, call_tree, seen_optional, named_there};
 ghost use Rattle.kt_model.specs.BodyTrees as body;
 ghost use Rattle.kt_graph.specs.Building.{WalksTree, WalksTrees};
+ghost use Rattle.kt_graph.specs.Straight.{IsStraight};
 
 use crate::building::{Builder, Exits, FlowContext};
 use crate::leaving::place_if;
@@ -27,101 +28,22 @@ impl Builder {
     {
         let tree = e.number;
         match &e.kind {
-            ExprKind::Int(_) => {
-                let n = self.leaf(context, exits, tree)?;
-                Ok(n)
-            }
-            ExprKind::Bool(_) => {
-                let n = self.leaf(context, exits, tree)?;
-                Ok(n)
-            }
-            ExprKind::Null => {
-                let n = self.leaf(context, exits, tree)?;
-                Ok(n)
-            }
-            ExprKind::Name(_) => {
-                let n = self.name(uses, context, exits, tree)?;
-                Ok(n)
-            }
-            ExprKind::Template(parts) => {
-                let out = self.close(context, exits, tree)?;
-                let first = self.pieces(uses, context, Some(out), parts.as_slice())?;
-                let n = self.enter(context, tree, first)?;
-                Ok(n)
-            }
-            ExprKind::Paren(a) => {
-                let inner = self.enclose(context, exits, tree)?;
-                let a = self.expr(uses, context, inner, a.get())?;
-                let n = self.enter(context, tree, Some(a))?;
-                Ok(n)
-            }
-            ExprKind::Call {
-                callee: _,
-                arguments,
-                lambda,
-            } => match lambda {
-                None => {
-                    let n = self.call(uses, context, exits, tree, arguments.as_slice())?;
-                    Ok(n)
-                }
-                Some(_) => {
-                    let n = self.shut(context, exits, tree)?;
-                    Ok(n)
-                }
-            },
-            ExprKind::Sign(_, a) => {
-                let out = self.close(context, exits, tree)?;
-                let a = self.expr(uses, context, Exits::Then(Some(out)), a.get())?;
-                let n = self.enter(context, tree, Some(a))?;
-                Ok(n)
-            }
             ExprKind::Not(a) => {
                 let (on_true, on_false) = self.test(context, exits, tree)?;
                 let a = self.expr(uses, context, Exits::Branch(on_false, on_true), a.get())?;
-                let n = self.enter(context, tree, Some(a))?;
-                Ok(n)
-            }
-            ExprKind::Sum(a, b) => {
-                let out = self.close(context, exits, tree)?;
-                let b = self.expr(uses, context, Exits::Then(Some(out)), b.get())?;
-                let a = self.expr(uses, context, Exits::Then(Some(b)), a.get())?;
-                let n = self.enter(context, tree, Some(a))?;
-                Ok(n)
-            }
-            ExprKind::Arithmetic(_, a, b) => {
-                let out = self.close(context, exits, tree)?;
-                let b = self.expr(uses, context, Exits::Then(Some(out)), b.get())?;
-                let a = self.expr(uses, context, Exits::Then(Some(b)), a.get())?;
-                let n = self.enter(context, tree, Some(a))?;
-                Ok(n)
-            }
-            ExprKind::Compare(_, a, b) => {
-                let out = self.close(context, exits, tree)?;
-                let b = self.expr(uses, context, Exits::Then(Some(out)), b.get())?;
-                let a = self.expr(uses, context, Exits::Then(Some(b)), a.get())?;
-                let n = self.enter(context, tree, Some(a))?;
-                Ok(n)
-            }
-            ExprKind::Equal(_, a, b) => {
-                let out = self.close(context, exits, tree)?;
-                let b = self.expr(uses, context, Exits::Then(Some(out)), b.get())?;
-                let a = self.expr(uses, context, Exits::Then(Some(b)), a.get())?;
-                let n = self.enter(context, tree, Some(a))?;
-                Ok(n)
+                self.enter(context, tree, Some(a))
             }
             ExprKind::And(a, b) => {
                 let (on_true, on_false) = self.test(context, exits, tree)?;
                 let b = self.expr(uses, context, Exits::Branch(on_true, on_false), b.get())?;
                 let a = self.expr(uses, context, Exits::Branch(Some(b), on_false), a.get())?;
-                let n = self.enter(context, tree, Some(a))?;
-                Ok(n)
+                self.enter(context, tree, Some(a))
             }
             ExprKind::Or(a, b) => {
                 let (on_true, on_false) = self.test(context, exits, tree)?;
                 let b = self.expr(uses, context, Exits::Branch(on_true, on_false), b.get())?;
                 let a = self.expr(uses, context, Exits::Branch(on_true, Some(b)), a.get())?;
-                let n = self.enter(context, tree, Some(a))?;
-                Ok(n)
+                self.enter(context, tree, Some(a))
             }
             ExprKind::If {
                 condition,
@@ -131,35 +53,69 @@ impl Builder {
                 let out = self.close(context, exits, tree)?;
                 let on_false = self.otherwise(uses, context, Some(out), otherwise)?;
                 let on_true = self.branch(uses, context, Some(out), then.get())?;
-                let c = self.expr(
-                    uses,
-                    context,
-                    Exits::Branch(on_true, on_false),
-                    condition.get(),
-                )?;
-                let n = self.enter(context, tree, Some(c))?;
-                Ok(n)
+                let branches = Exits::Branch(on_true, on_false);
+                let c = self.expr(uses, context, branches, condition.get())?;
+                self.enter(context, tree, Some(c))
             }
             ExprKind::Return { label, value } => match label {
-                None => {
-                    let n = self.returned(uses, context, exits, tree, value)?;
-                    Ok(n)
-                }
-                Some(_) => {
-                    let n = self.shut(context, exits, tree)?;
-                    Ok(n)
-                }
+                None => self.returned(uses, context, exits, tree, value),
+                Some(_) => self.shut(context, exits, tree),
             },
-            ExprKind::Throw(a) => {
-                let out = self.jump(context, tree, None)?;
+            ExprKind::Throw(a) => self.thrown(uses, context, tree, a.get()),
+            _ => self.straight(uses, context, exits, e),
+        }
+    }
+
+    /// Adds an expression that neither branches nor jumps: all of its parts are evaluated, one behind another.
+    #[cycle(walk)]
+    fn straight(
+        &mut self,
+        uses: &Uses,
+        context: FlowContext<'_>,
+        exits: Exits,
+        e: &Expr,
+    ) -> Result<u32, NoMemory>
+        ensures { IsStraight e.now.kind → IfOk result (λ n. WalksTree self.old self.new (expr_tree (named_at uses.now) e.now) context.entry exits n) }
+    {
+        let tree = e.number;
+        match &e.kind {
+            ExprKind::Int(_) | ExprKind::Bool(_) | ExprKind::Null => {
+                self.leaf(context, exits, tree)
+            }
+            ExprKind::Name(_) => self.name(uses, context, exits, tree),
+            ExprKind::Template(parts) => {
+                let out = self.close(context, exits, tree)?;
+                let first = self.pieces(uses, context, Some(out), parts.as_slice())?;
+                self.enter(context, tree, first)
+            }
+            ExprKind::Paren(a) => {
+                let inner = self.enclose(context, exits, tree)?;
+                let a = self.expr(uses, context, inner, a.get())?;
+                self.enter(context, tree, Some(a))
+            }
+            ExprKind::Call {
+                callee: _,
+                arguments,
+                lambda,
+            } => match lambda {
+                None => self.call(uses, context, exits, tree, arguments.as_slice()),
+                Some(_) => self.shut(context, exits, tree),
+            },
+            ExprKind::Sign(_, a) => {
+                let out = self.close(context, exits, tree)?;
                 let a = self.expr(uses, context, Exits::Then(Some(out)), a.get())?;
-                let n = self.enter(context, tree, Some(a))?;
-                Ok(n)
+                self.enter(context, tree, Some(a))
             }
-            _ => {
-                let n = self.shut(context, exits, tree)?;
-                Ok(n)
+            ExprKind::Sum(a, b)
+            | ExprKind::Arithmetic(_, a, b)
+            | ExprKind::Compare(_, a, b)
+            | ExprKind::Equal(_, a, b) => {
+                let out = self.close(context, exits, tree)?;
+                let b = self.expr(uses, context, Exits::Then(Some(out)), b.get())?;
+                let a = self.expr(uses, context, Exits::Then(Some(b)), a.get())?;
+                self.enter(context, tree, Some(a))
             }
+            _ => self.shut(context, exits, tree),
         }
     }
 
@@ -283,6 +239,23 @@ impl Builder {
                 Ok(n)
             }
         }
+    }
+
+    /// Adds a `throw`.
+    #[cycle(walk)]
+    fn thrown(
+        &mut self,
+        uses: &Uses,
+        context: FlowContext<'_>,
+        tree: u32,
+        a: &Expr,
+    ) -> Result<u32, NoMemory>
+        ensures { IfOk result (λ n. (exits : Exits) (at word : Span) → WalksTree self.old self.new (body.Throw' (named_there tree at word) (expr_tree (named_at uses.now) a.now)) context.entry exits n) }
+    {
+        let out = self.jump(context, tree, None)?;
+        let a = self.expr(uses, context, Exits::Then(Some(out)), a)?;
+        let n = self.enter(context, tree, Some(a))?;
+        Ok(n)
     }
 
     /// Adds what a condition leads to.

@@ -2,97 +2,130 @@ use Rattle.std.proofs.Common.{◌≡◌, ◌∙◌, ◌+◌, ◌-◌, ◌≤◌,
 use Rattle.std.proofs.lemmas.List.{drop_all}
 use Rattle.kt_tree.specs.declared.ast.body.ExprKind.TheVariants as e
 use Rattle.kt_model.specs.declared.uses.Named.TheVariants as named
-use Rattle.kt_model.proofs.BodyFolds.{tree_of_kind, kind_int, kind_bool, kind_null, kind_name, kind_template, kind_paren, kind_call, kind_call_with, kind_sign, kind_not, kind_sum, kind_arithmetic, kind_compare, kind_equal, kind_and, kind_or, kind_if_any, kind_return_any, kind_return_at_any, kind_throw, kind_other, stmt_expr, stmt_local_any, stmt_assign_any, stmt_while, stmt_do_while, stmt_for, branch_braced, branch_single, piece_text, piece_inserted, block_list}
+use Rattle.kt_model.proofs.BodyFolds.{tree_of_kind, kind_name, kind_template, kind_paren, kind_call, kind_call_with, kind_sign, kind_not, kind_if_any, kind_return_any, kind_return_at_any, kind_throw, kind_other, stmt_expr, stmt_local_any, stmt_assign_any, stmt_while, stmt_do_while, stmt_for, branch_braced, branch_single, piece_text, piece_inserted, block_list}
 use Rattle.kt_model.specs.NameUses.{named_at}
 use Rattle.kt_model.specs.BodyTrees.{shut, expr_tree, branch_trees, stmt_tree, piece, seen, seen_trees, seen_optional, inserted_of, listed, otherwise, call_tree, local_tree, assign_tree, assigned_tree, First', Empty', Sum', Arithmetic', name_span, named_there}
 use Rattle.kt_graph.specs.Sizes.{size, all_size, own_size, capped}
 use Rattle.kt_graph.proofs.Walks.{stmts_more, exprs_more, pieces_more}
-use Rattle.kt_graph.proofs.Counts.{counted, all_counted, count_one, count_two, count_piece, own_alone}
+use Rattle.kt_graph.proofs.KindGroups.{no_part, two_parts, two_conditions}
+use Rattle.kt_graph.proofs.Counts.{counted, all_counted, expr_counted, count_one, count_two, count_piece, own_alone}
 use Rattle.kt_graph.proofs.count.+count.Goals as goal
 
 pub expr-returns-in-Int : goal.expr-returns-in-Int
 expr-returns-in-Int t c =
-    counted c.args.branching (tree_of_kind (named_at c.args.uses.now) c.args.e.now _ _ c.in-Int.is (kind_int (named_at c.args.uses.now) c.in-Int.field-0)) (c.own.ensures ∙ own_alone _)
-
-pub expr-returns-in-Bool : goal.expr-returns-in-Bool
-expr-returns-in-Bool t c =
-    counted c.args.branching (tree_of_kind (named_at c.args.uses.now) c.args.e.now _ _ c.in-Bool.is (kind_bool (named_at c.args.uses.now) c.in-Bool.field-0)) (c.own-in-Bool.ensures ∙ own_alone _)
-
-pub expr-returns-in-Null : goal.expr-returns-in-Null
-expr-returns-in-Null t c =
-    counted c.args.branching (tree_of_kind (named_at c.args.uses.now) c.args.e.now _ _ c.in-Null.is (kind_null (named_at c.args.uses.now))) (c.own-in-Null.ensures ∙ own_alone _)
+    let uses = named_at c.args.uses.now in
+    let x = c.args.e.now in
+    let b = c.args.branching in
+    let leaf = no_part uses x c.in-Int.is in
+    counted b leaf.is (c.own-in-Int.ensures ∙ own_alone _)
 
 pub expr-returns-in-Name : goal.expr-returns-in-Name
 expr-returns-in-Name t c =
-    counted c.args.branching (tree_of_kind (named_at c.args.uses.now) c.args.e.now _ _ c.in-Name.is (kind_name (named_at c.args.uses.now) c.in-Name.field-0)) (c.name.ensures c.args.e.now.span)
+    let uses = named_at c.args.uses.now in
+    let x = c.args.e.now in
+    let b = c.args.branching in
+    counted b (tree_of_kind uses x _ _ c.in-Name.is (kind_name uses c.in-Name.field-0)) (c.name.ensures x.span)
 
 pub expr-returns-in-Template : goal.expr-returns-in-Template
 expr-returns-in-Template t c =
-    counted c.args.branching (tree_of_kind (named_at c.args.uses.now) c.args.e.now _ _ c.in-Template.is (kind_template (named_at c.args.uses.now) c.in-Template.parts)) (c.add.ensures (own_size c.args.branching) (all_size (inserted_of (map (piece (named_at c.args.uses.now)) c.in-Template.parts))) c.own-own.ensures (all_counted (ap (λ l. inserted_of (map (piece (named_at c.args.uses.now)) l)) (sym c.as_slice.ensures)) c.pieces-parts.ensures))
+    let uses = named_at c.args.uses.now in
+    let x = c.args.e.now in
+    let b = c.args.branching in
+    counted b (tree_of_kind uses x _ _ c.in-Template.is (kind_template uses c.in-Template.parts)) (c.add.ensures (own_size b) (all_size (inserted_of (map (piece uses) c.in-Template.parts))) c.own.ensures (all_counted (ap (λ l. inserted_of (map (piece uses) l)) (sym c.as_slice.ensures)) c.pieces.ensures))
 
 pub expr-returns-in-Paren : goal.expr-returns-in-Paren
 expr-returns-in-Paren t c =
-    counted c.args.branching (tree_of_kind (named_at c.args.uses.now) c.args.e.now _ _ c.in-Paren.is (kind_paren (named_at c.args.uses.now) c.in-Paren.a)) (c.add-in-Paren.ensures 2 (size c.args.branching (expr_tree (named_at c.args.uses.now) c.in-Paren.a)) refl (counted c.args.branching (ap (expr_tree (named_at c.args.uses.now)) (sym c.get.ensures)) c.expr-a.ensures))
-
-pub expr-returns-in-Sign : goal.expr-returns-in-Sign
-expr-returns-in-Sign t c =
-    counted c.args.branching (tree_of_kind (named_at c.args.uses.now) c.args.e.now _ _ c.in-Sign.is (kind_sign (named_at c.args.uses.now) c.in-Sign.field-0 c.in-Sign.a)) (c.add-in-Sign.ensures (own_size c.args.branching) (all_size (First' (expr_tree (named_at c.args.uses.now) c.in-Sign.a) Empty')) c.own-own-in-Sign.ensures (count_one (expr_tree (named_at c.args.uses.now) c.in-Sign.a) (counted false (ap (expr_tree (named_at c.args.uses.now)) (sym c.get-in-Sign.ensures)) c.expr-a-in-Sign.ensures)))
-
-pub expr-returns-in-Not : goal.expr-returns-in-Not
-expr-returns-in-Not t c =
-    counted c.args.branching (tree_of_kind (named_at c.args.uses.now) c.args.e.now _ _ c.in-Not.is (kind_not (named_at c.args.uses.now) c.in-Not.a)) (c.add-in-Not.ensures 2 (size true (expr_tree (named_at c.args.uses.now) c.in-Not.a)) refl (counted true (ap (expr_tree (named_at c.args.uses.now)) (sym c.get-in-Not.ensures)) c.expr-a-in-Not.ensures))
-
-pub expr-returns-in-Sum : goal.expr-returns-in-Sum
-expr-returns-in-Sum t c =
-    counted c.args.branching (tree_of_kind (named_at c.args.uses.now) c.args.e.now _ _ c.in-Sum.is (kind_sum (named_at c.args.uses.now) c.in-Sum.a c.in-Sum.b)) (c.add-in-Sum.ensures (own_size c.args.branching) (all_size (First' (expr_tree (named_at c.args.uses.now) c.in-Sum.a) (First' (expr_tree (named_at c.args.uses.now) c.in-Sum.b) Empty'))) c.own-own-in-Sum.ensures (count_two (expr_tree (named_at c.args.uses.now) c.in-Sum.a) (expr_tree (named_at c.args.uses.now) c.in-Sum.b) c.add-parts.ensures (counted false (ap (expr_tree (named_at c.args.uses.now)) (sym c.get-in-Sum.ensures)) c.expr-a-in-Sum.ensures) (counted false (ap (expr_tree (named_at c.args.uses.now)) (sym c.get-in-Sum-2.ensures)) c.expr-b.ensures)))
-
-pub expr-returns-in-Arithmetic : goal.expr-returns-in-Arithmetic
-expr-returns-in-Arithmetic t c =
-    counted c.args.branching (tree_of_kind (named_at c.args.uses.now) c.args.e.now _ _ c.in-Arithmetic.is (kind_arithmetic (named_at c.args.uses.now) c.in-Arithmetic.field-0 c.in-Arithmetic.a c.in-Arithmetic.b)) (c.add-in-Arithmetic.ensures (own_size c.args.branching) (all_size (First' (expr_tree (named_at c.args.uses.now) c.in-Arithmetic.a) (First' (expr_tree (named_at c.args.uses.now) c.in-Arithmetic.b) Empty'))) c.own-own-in-Arithmetic.ensures (count_two (expr_tree (named_at c.args.uses.now) c.in-Arithmetic.a) (expr_tree (named_at c.args.uses.now) c.in-Arithmetic.b) c.add-parts-in-Arithmetic.ensures (counted false (ap (expr_tree (named_at c.args.uses.now)) (sym c.get-in-Arithmetic.ensures)) c.expr-a-in-Arithmetic.ensures) (counted false (ap (expr_tree (named_at c.args.uses.now)) (sym c.get-in-Arithmetic-2.ensures)) c.expr-b-in-Arithmetic.ensures)))
-
-pub expr-returns-in-Compare : goal.expr-returns-in-Compare
-expr-returns-in-Compare t c =
-    counted c.args.branching (tree_of_kind (named_at c.args.uses.now) c.args.e.now _ _ c.in-Compare.is (kind_compare (named_at c.args.uses.now) c.in-Compare.field-0 c.in-Compare.a c.in-Compare.b)) (c.add-in-Compare.ensures (own_size c.args.branching) (all_size (First' (expr_tree (named_at c.args.uses.now) c.in-Compare.a) (First' (expr_tree (named_at c.args.uses.now) c.in-Compare.b) Empty'))) c.own-own-in-Compare.ensures (count_two (expr_tree (named_at c.args.uses.now) c.in-Compare.a) (expr_tree (named_at c.args.uses.now) c.in-Compare.b) c.add-parts-in-Compare.ensures (counted false (ap (expr_tree (named_at c.args.uses.now)) (sym c.get-in-Compare.ensures)) c.expr-a-in-Compare.ensures) (counted false (ap (expr_tree (named_at c.args.uses.now)) (sym c.get-in-Compare-2.ensures)) c.expr-b-in-Compare.ensures)))
-
-pub expr-returns-in-Equal : goal.expr-returns-in-Equal
-expr-returns-in-Equal t c =
-    counted c.args.branching (tree_of_kind (named_at c.args.uses.now) c.args.e.now _ _ c.in-Equal.is (kind_equal (named_at c.args.uses.now) c.in-Equal.field-0 c.in-Equal.a c.in-Equal.b)) (c.add-in-Equal.ensures (own_size c.args.branching) (all_size (First' (expr_tree (named_at c.args.uses.now) c.in-Equal.a) (First' (expr_tree (named_at c.args.uses.now) c.in-Equal.b) Empty'))) c.own-own-in-Equal.ensures (count_two (expr_tree (named_at c.args.uses.now) c.in-Equal.a) (expr_tree (named_at c.args.uses.now) c.in-Equal.b) c.add-parts-in-Equal.ensures (counted false (ap (expr_tree (named_at c.args.uses.now)) (sym c.get-in-Equal.ensures)) c.expr-a-in-Equal.ensures) (counted false (ap (expr_tree (named_at c.args.uses.now)) (sym c.get-in-Equal-2.ensures)) c.expr-b-in-Equal.ensures)))
-
-pub expr-returns-in-And : goal.expr-returns-in-And
-expr-returns-in-And t c =
-    counted c.args.branching (tree_of_kind (named_at c.args.uses.now) c.args.e.now _ _ c.in-And.is (kind_and (named_at c.args.uses.now) c.in-And.a c.in-And.b)) (c.add-in-And.ensures 2 (size true (expr_tree (named_at c.args.uses.now) c.in-And.a) + size true (expr_tree (named_at c.args.uses.now) c.in-And.b)) refl (c.add-parts-in-And.ensures (size true (expr_tree (named_at c.args.uses.now) c.in-And.a)) (size true (expr_tree (named_at c.args.uses.now) c.in-And.b)) (counted true (ap (expr_tree (named_at c.args.uses.now)) (sym c.get-in-And.ensures)) c.expr-a-in-And.ensures) (counted true (ap (expr_tree (named_at c.args.uses.now)) (sym c.get-in-And-2.ensures)) c.expr-b-in-And.ensures)))
-
-pub expr-returns-in-Or : goal.expr-returns-in-Or
-expr-returns-in-Or t c =
-    counted c.args.branching (tree_of_kind (named_at c.args.uses.now) c.args.e.now _ _ c.in-Or.is (kind_or (named_at c.args.uses.now) c.in-Or.a c.in-Or.b)) (c.add-in-Or.ensures 2 (size true (expr_tree (named_at c.args.uses.now) c.in-Or.a) + size true (expr_tree (named_at c.args.uses.now) c.in-Or.b)) refl (c.add-parts-in-Or.ensures (size true (expr_tree (named_at c.args.uses.now) c.in-Or.a)) (size true (expr_tree (named_at c.args.uses.now) c.in-Or.b)) (counted true (ap (expr_tree (named_at c.args.uses.now)) (sym c.get-in-Or.ensures)) c.expr-a-in-Or.ensures) (counted true (ap (expr_tree (named_at c.args.uses.now)) (sym c.get-in-Or-2.ensures)) c.expr-b-in-Or.ensures)))
-
-pub expr-returns-in-If : goal.expr-returns-in-If
-expr-returns-in-If t c =
-    counted c.args.branching (tree_of_kind (named_at c.args.uses.now) c.args.e.now _ _ c.in-If.is (kind_if_any (named_at c.args.uses.now) c.in-If.condition c.in-If.then c.in-If.otherwise)) (c.add-in-If.ensures (own_size c.args.branching) (size true (expr_tree (named_at c.args.uses.now) c.in-If.condition) + (all_size (branch_trees (named_at c.args.uses.now) c.in-If.then) + all_size (otherwise (option_map (branch_trees (named_at c.args.uses.now)) c.in-If.otherwise)))) c.own-own-in-If.ensures (c.add-parts-in-If.ensures (size true (expr_tree (named_at c.args.uses.now) c.in-If.condition)) (all_size (branch_trees (named_at c.args.uses.now) c.in-If.then) + all_size (otherwise (option_map (branch_trees (named_at c.args.uses.now)) c.in-If.otherwise))) (counted true (ap (expr_tree (named_at c.args.uses.now)) (sym c.get-in-If.ensures)) c.expr-c.ensures) (c.add-branches.ensures (all_size (branch_trees (named_at c.args.uses.now) c.in-If.then)) (all_size (otherwise (option_map (branch_trees (named_at c.args.uses.now)) c.in-If.otherwise))) (all_counted (ap (branch_trees (named_at c.args.uses.now)) (sym c.get-in-If-2.ensures)) c.branch-a.ensures) c.alternative-b.ensures)))
-
-pub expr-returns-in-Throw : goal.expr-returns-in-Throw
-expr-returns-in-Throw t c =
-    counted c.args.branching (tree_of_kind (named_at c.args.uses.now) c.args.e.now _ _ c.in-Throw.is (kind_throw (named_at c.args.uses.now) c.in-Throw.a)) (c.add-in-Throw.ensures 2 (size false (expr_tree (named_at c.args.uses.now) c.in-Throw.a)) refl (counted false (ap (expr_tree (named_at c.args.uses.now)) (sym c.get-in-Throw.ensures)) c.expr-a-in-Throw.ensures))
-
-pub expr-returns-in_default : goal.expr-returns-in_default
-expr-returns-in_default t c =
-    counted c.args.branching (tree_of_kind (named_at c.args.uses.now) c.args.e.now c.args.e.now.kind shut refl (kind_other (named_at c.args.uses.now) c.args.e.now.kind c.in_default.not-Int c.in_default.not-Bool c.in_default.not-Null c.in_default.not-Name c.in_default.not-Template c.in_default.not-Paren c.in_default.not-Call c.in_default.not-Sign c.in_default.not-Not c.in_default.not-Sum c.in_default.not-Arithmetic c.in_default.not-Compare c.in_default.not-Equal c.in_default.not-And c.in_default.not-Or c.in_default.not-If c.in_default.not-Return c.in_default.not-Throw)) refl
+    let uses = named_at c.args.uses.now in
+    let x = c.args.e.now in
+    let b = c.args.branching in
+    counted b (tree_of_kind uses x _ _ c.in-Paren.is (kind_paren uses c.in-Paren.a)) (c.add-in-Paren.ensures 2 (size b (expr_tree uses c.in-Paren.a)) refl (expr_counted uses b c.get.ensures c.expr.ensures))
 
 pub expr-returns-in-None : goal.expr-returns-in-None
 expr-returns-in-None t c =
-    counted c.args.branching (tree_of_kind (named_at c.args.uses.now) c.args.e.now _ _ (c.in-Call.is ∙ ap (e.Call c.in-Call.callee c.in-Call.arguments) c.in-None.is) (kind_call (named_at c.args.uses.now) c.in-Call.callee c.in-Call.arguments) ∙ ap (λ l. call_tree (named_at c.args.uses.now c.args.e.now.number) (seen_trees (map (seen (named_at c.args.uses.now)) l)) (named_there c.args.e.now.number c.args.e.now.span c.in-Call.callee.span)) (sym c.as_slice-in-None.ensures)) (c.call.ensures _ _)
+    let uses = named_at c.args.uses.now in
+    let x = c.args.e.now in
+    let b = c.args.branching in
+    counted b (tree_of_kind uses x _ _ (c.in-Call.is ∙ ap (e.Call c.in-Call.callee c.in-Call.arguments) c.in-None.is) (kind_call uses c.in-Call.callee c.in-Call.arguments) ∙ ap (λ l. call_tree (uses x.number) (seen_trees (map (seen uses) l)) (named_there x.number x.span c.in-Call.callee.span)) (sym c.as_slice-in-None.ensures)) (c.call.ensures _ _)
 
 pub expr-returns-in-Some : goal.expr-returns-in-Some
 expr-returns-in-Some t c =
-    counted c.args.branching (tree_of_kind (named_at c.args.uses.now) c.args.e.now _ _ (c.in-Call.is ∙ ap (e.Call c.in-Call.callee c.in-Call.arguments) c.in-Some.is) (kind_call_with (named_at c.args.uses.now) c.in-Call.callee c.in-Call.arguments _)) refl
+    let uses = named_at c.args.uses.now in
+    let x = c.args.e.now in
+    let b = c.args.branching in
+    counted b (tree_of_kind uses x _ _ (c.in-Call.is ∙ ap (e.Call c.in-Call.callee c.in-Call.arguments) c.in-Some.is) (kind_call_with uses c.in-Call.callee c.in-Call.arguments _)) refl
+
+pub expr-returns-in-Sign : goal.expr-returns-in-Sign
+expr-returns-in-Sign t c =
+    let uses = named_at c.args.uses.now in
+    let x = c.args.e.now in
+    let b = c.args.branching in
+    let part = expr_tree uses c.in-Sign.a in
+    counted b (tree_of_kind uses x _ _ c.in-Sign.is (kind_sign uses c.in-Sign.field-0 c.in-Sign.a)) (c.add-in-Sign.ensures (own_size b) (all_size (First' part Empty')) c.own-in-Sign.ensures (count_one part (expr_counted uses false c.get-in-Sign.ensures c.expr-in-Sign.ensures)))
+
+pub expr-returns-in-Not : goal.expr-returns-in-Not
+expr-returns-in-Not t c =
+    let uses = named_at c.args.uses.now in
+    let x = c.args.e.now in
+    let b = c.args.branching in
+    counted b (tree_of_kind uses x _ _ c.in-Not.is (kind_not uses c.in-Not.a)) (c.add-in-Not.ensures 2 (size true (expr_tree uses c.in-Not.a)) refl (expr_counted uses true c.get-in-Not.ensures c.expr-in-Not.ensures))
+
+pub expr-returns-in-Sum : goal.expr-returns-in-Sum
+expr-returns-in-Sum t c =
+    let uses = named_at c.args.uses.now in
+    let x = c.args.e.now in
+    let b = c.args.branching in
+    let left = expr_tree uses c.in-Sum.a in
+    let right = expr_tree uses c.in-Sum.b in
+    let both = two_parts uses x c.in-Sum.a c.in-Sum.b c.in-Sum.is in
+    counted b both.is (c.add-in-Sum.ensures (own_size b) (all_size (First' left (First' right Empty'))) c.own-in-Sum.ensures (count_two left right c.add-parts-in-Sum.ensures (expr_counted uses false c.get-in-Sum.ensures c.expr-in-Sum.ensures) (expr_counted uses false c.get-in-Sum-2.ensures c.expr-in-Sum-2.ensures)))
+
+pub expr-returns-in-And : goal.expr-returns-in-And
+expr-returns-in-And t c =
+    let uses = named_at c.args.uses.now in
+    let x = c.args.e.now in
+    let b = c.args.branching in
+    let left = size true (expr_tree uses c.in-And.a) in
+    let right = size true (expr_tree uses c.in-And.b) in
+    c.add-in-And-2.ensures 2 (left + right) refl (c.add-in-And.ensures left right (expr_counted uses true c.get-in-And.ensures c.expr-in-And.ensures) (expr_counted uses true c.get-in-And-2.ensures c.expr-in-And-2.ensures)) ∙ sym (ap capped (two_conditions uses b x c.in-And.a c.in-And.b c.in-And.is))
+
+pub expr-returns-in-If : goal.expr-returns-in-If
+expr-returns-in-If t c =
+    let uses = named_at c.args.uses.now in
+    let x = c.args.e.now in
+    let b = c.args.branching in
+    let condition = size true (expr_tree uses c.in-If.condition) in
+    let then = all_size (branch_trees uses c.in-If.then) in
+    let other = all_size (otherwise (option_map (branch_trees uses) c.in-If.otherwise)) in
+    counted b (tree_of_kind uses x _ _ c.in-If.is (kind_if_any uses c.in-If.condition c.in-If.then c.in-If.otherwise)) (c.add-in-If.ensures (own_size b) (condition + (then + other)) c.own-in-If.ensures (c.add-parts.ensures condition (then + other) (expr_counted uses true c.get-in-If-2.ensures c.expr-in-If.ensures) (c.add-branches.ensures then other (all_counted (ap (branch_trees uses) (sym c.get-in-If.ensures)) c.branch-uses.ensures) c.alternative.ensures)))
 
 pub expr-returns-in-None-label : goal.expr-returns-in-None-label
 expr-returns-in-None-label t c =
-    counted c.args.branching (tree_of_kind (named_at c.args.uses.now) c.args.e.now _ _ (c.in-Return.is ∙ ap (λ l. e.Return l c.in-Return.value) c.in-None-label.is) (kind_return_any (named_at c.args.uses.now) c.in-Return.value)) (c.add-in-None-label.ensures 2 (all_size (seen_optional (option_map (seen (named_at c.args.uses.now)) c.in-Return.value))) refl c.optional-value.ensures)
+    let uses = named_at c.args.uses.now in
+    let x = c.args.e.now in
+    let b = c.args.branching in
+    counted b (tree_of_kind uses x _ _ (c.in-Return.is ∙ ap (λ l. e.Return l c.in-Return.value) c.in-None-label.is) (kind_return_any uses c.in-Return.value)) (c.add-in-None-label.ensures 2 (all_size (seen_optional (option_map (seen uses) c.in-Return.value))) refl c.optional.ensures)
 
 pub expr-returns-in-Some-label : goal.expr-returns-in-Some-label
 expr-returns-in-Some-label t c =
-    counted c.args.branching (tree_of_kind (named_at c.args.uses.now) c.args.e.now _ _ (c.in-Return.is ∙ ap (λ l. e.Return l c.in-Return.value) c.in-Some-label.is) (kind_return_at_any (named_at c.args.uses.now) _ c.in-Return.value)) refl
+    let uses = named_at c.args.uses.now in
+    let x = c.args.e.now in
+    let b = c.args.branching in
+    counted b (tree_of_kind uses x _ _ (c.in-Return.is ∙ ap (λ l. e.Return l c.in-Return.value) c.in-Some-label.is) (kind_return_at_any uses _ c.in-Return.value)) refl
+
+pub expr-returns-in-Throw : goal.expr-returns-in-Throw
+expr-returns-in-Throw t c =
+    let uses = named_at c.args.uses.now in
+    let x = c.args.e.now in
+    let b = c.args.branching in
+    counted b (tree_of_kind uses x _ _ c.in-Throw.is (kind_throw uses c.in-Throw.a)) (c.add-in-Throw.ensures 2 (size false (expr_tree uses c.in-Throw.a)) refl (expr_counted uses false c.get-in-Throw.ensures c.expr-in-Throw.ensures))
+
+pub expr-returns-in_default : goal.expr-returns-in_default
+expr-returns-in_default t c =
+    let uses = named_at c.args.uses.now in
+    let x = c.args.e.now in
+    let b = c.args.branching in
+    let d = c.in_default in
+    counted b (tree_of_kind uses x x.kind shut refl (kind_other uses x.kind d.not-Int d.not-Bool d.not-Null d.not-Name d.not-Template d.not-Paren d.not-Call d.not-Sign d.not-Not d.not-Sum d.not-Arithmetic d.not-Compare d.not-Equal d.not-And d.not-Or d.not-If d.not-Return d.not-Throw)) refl
 
 pub statements-loop-i-init : goal.statements-loop-i-init
 statements-loop-i-init t c = record {

@@ -6,79 +6,128 @@ use Rattle.kt_model.specs.declared.uses.Named.TheVariants as named
 use Rattle.kt_model.specs.declared.graph.Tag.TheVariants as tag
 use Rattle.kt_graph.specs.declared.building.Exits.TheVariants as exits
 use Rattle.kt_model.specs.ControlFlow.{bring}
-use Rattle.kt_model.proofs.BodyFolds.{tree_of_kind, kind_int, kind_bool, kind_null, kind_name, kind_template, kind_paren, kind_call, kind_call_with, kind_sign, kind_not, kind_sum, kind_arithmetic, kind_compare, kind_equal, kind_and, kind_or, kind_if_any, kind_return_any, kind_return_at_any, kind_throw, kind_other, stmt_expr, stmt_local_any, stmt_assign_any, stmt_while, stmt_do_while, stmt_for, branch_braced, branch_single, piece_text, piece_inserted, block_list}
+use Rattle.kt_model.proofs.BodyFolds.{tree_of_kind, kind_name, kind_template, kind_paren, kind_call, kind_call_with, kind_sign, kind_not, kind_and, kind_or, kind_if_any, kind_return_any, kind_return_at_any, kind_throw, kind_other, stmt_expr, stmt_local_any, stmt_assign_any, stmt_while, stmt_do_while, stmt_for, branch_braced, branch_single, piece_text, piece_inserted, block_list}
 use Rattle.kt_model.specs.NameUses.{named_at}
-use Rattle.kt_model.specs.BodyTrees.{Int', Bool', Null', Template', Sign', Sum', Arithmetic', Compare', Equal', BuiltIn', Return', Compound', texts_of, inserted_of, seen_optional, shut, expr_tree, branch_trees, stmt_tree, piece, seen, seen_trees, listed, otherwise, call_tree, local_tree, assign_tree, assigned_tree, name_span, named_there}
-use Rattle.kt_graph.proofs.Walks.{same_tree, same_trees, same_next, expr_at, branch_at, walk_operation, walk_unary, walk_binary, walk_paren, walk_not, walk_and, walk_or, walk_if, walk_throw, walk_return, walk_one, walk_first, walk_empty, walk_call, walk_name, walk_local, walk_assign, walk_compound, walk_declare, walk_piece, stmts_more, exprs_more, pieces_more, leaves_effects, steps_effects, unnamed}
+use Rattle.kt_model.specs.BodyTrees.{Template', Sign', BuiltIn', Return', Throw', Compound', whole, texts_of, inserted_of, seen_optional, shut, expr_tree, branch_trees, stmt_tree, piece, seen, seen_trees, listed, otherwise, call_tree, local_tree, assign_tree, assigned_tree, name_span, named_there}
+use Rattle.kt_graph.proofs.KindGroups.{no_part, two_parts}
+use Rattle.kt_graph.proofs.Walks.{walked, same_tree, same_trees, same_next, expr_at, branch_at, walk_operation, walk_unary, walk_binary, walk_paren, walk_not, walk_and, walk_or, walk_if, walk_throw, walk_return, walk_one, walk_first, walk_empty, walk_call, walk_name, walk_local, walk_assign, walk_compound, walk_declare, walk_piece, stmts_more, exprs_more, pieces_more, leaves_effects, steps_effects, unnamed}
 use Rattle.kt_graph.proofs.building.Builder.+walk.Goals as goal
 
-pub expr-returns-in_ok-n-in-Int : goal.expr-returns-in_ok-n-in-Int
-expr-returns-in_ok-n-in-Int t c =
-    same_tree (tree_of_kind (named_at c.args.uses.now) c.args.e.now _ _ c.in-Int.is (kind_int (named_at c.args.uses.now) c.in-Int.field-0)) (c.in_ok-n-in-Int.ensures _ _ (Int' c.in-Int.field-0) refl)
+pub expr-returns-in_ok-a-in-Not : goal.expr-returns-in_ok-a-in-Not
+expr-returns-in_ok-a-in-Not t c =
+    let uses = named_at c.args.uses.now in
+    let x = c.args.e.now in
+    walked c.enter.result (tree_of_kind uses x _ _ c.in-Not.is (kind_not uses c.in-Not.a)) c.enter.ensures
+    (λ n i. walk_not c.in_ok-on_true-in-Not.ensures (expr_at uses c.get.ensures c.in_ok-a-in-Not.ensures) i)
 
-pub expr-returns-in_ok-n-in-Bool : goal.expr-returns-in_ok-n-in-Bool
-expr-returns-in_ok-n-in-Bool t c =
-    same_tree (tree_of_kind (named_at c.args.uses.now) c.args.e.now _ _ c.in-Bool.is (kind_bool (named_at c.args.uses.now) c.in-Bool.field-0)) (c.in_ok-n-in-Bool.ensures _ _ (Bool' c.in-Bool.field-0) refl)
+pub expr-returns-in_ok-a-in-And : goal.expr-returns-in_ok-a-in-And
+expr-returns-in_ok-a-in-And t c =
+    let uses = named_at c.args.uses.now in
+    let x = c.args.e.now in
+    walked c.enter-in-And.result (tree_of_kind uses x _ _ c.in-And.is (kind_and uses c.in-And.a c.in-And.b)) c.enter-in-And.ensures
+    (λ n i. walk_and c.in_ok-on_true-in-And.ensures (expr_at uses c.get-in-And.ensures c.in_ok-b-in-And.ensures) (expr_at uses c.get-in-And-2.ensures c.in_ok-a-in-And.ensures) i)
 
-pub expr-returns-in_ok-n-in-Null : goal.expr-returns-in_ok-n-in-Null
-expr-returns-in_ok-n-in-Null t c =
-    same_tree (tree_of_kind (named_at c.args.uses.now) c.args.e.now _ _ c.in-Null.is (kind_null (named_at c.args.uses.now))) (c.in_ok-n-in-Null.ensures _ _ Null' refl)
+pub expr-returns-in_ok-a-in-Or : goal.expr-returns-in_ok-a-in-Or
+expr-returns-in_ok-a-in-Or t c =
+    let uses = named_at c.args.uses.now in
+    let x = c.args.e.now in
+    walked c.enter-in-Or.result (tree_of_kind uses x _ _ c.in-Or.is (kind_or uses c.in-Or.a c.in-Or.b)) c.enter-in-Or.ensures
+    (λ n i. walk_or c.in_ok-on_true-in-Or.ensures (expr_at uses c.get-in-Or.ensures c.in_ok-b-in-Or.ensures) (expr_at uses c.get-in-Or-2.ensures c.in_ok-a-in-Or.ensures) i)
 
-pub expr-returns-in_ok-n-in-Name : goal.expr-returns-in_ok-n-in-Name
-expr-returns-in_ok-n-in-Name t c =
-    same_tree (tree_of_kind (named_at c.args.uses.now) c.args.e.now _ _ c.in-Name.is (kind_name (named_at c.args.uses.now) c.in-Name.field-0)) (c.in_ok-n-in-Name.ensures c.args.e.now.span)
+pub expr-returns-in_ok-c-in-If : goal.expr-returns-in_ok-c-in-If
+expr-returns-in_ok-c-in-If t c =
+    let uses = named_at c.args.uses.now in
+    let x = c.args.e.now in
+    walked c.enter-in-If.result (tree_of_kind uses x _ _ c.in-If.is (kind_if_any uses c.in-If.condition c.in-If.then c.in-If.otherwise)) c.enter-in-If.ensures
+    (λ n i. walk_if c.in_ok-out-in-If.ensures c.in_ok-on_false-in-If.ensures (branch_at uses c.get-in-If.ensures c.in_ok-on_true-in-If.ensures) (expr_at uses c.get-in-If-2.ensures c.in_ok-c-in-If.ensures) i)
 
-pub expr-returns-in_ok-n-in-Template : goal.expr-returns-in_ok-n-in-Template
-expr-returns-in_ok-n-in-Template t c =
-    same_tree (tree_of_kind (named_at c.args.uses.now) c.args.e.now _ _ c.in-Template.is (kind_template (named_at c.args.uses.now) c.in-Template.parts)) (walk_operation (Template' (texts_of (map (piece (named_at c.args.uses.now)) c.in-Template.parts))) c.in_ok-out-in-Template.ensures (same_trees (ap (λ l. inserted_of (map (piece (named_at c.args.uses.now)) l)) (sym c.as_slice.ensures)) c.in_ok-first-in-Template.ensures) c.in_ok-n-in-Template.ensures)
+pub expr-returns-in-None : goal.expr-returns-in-None
+expr-returns-in-None t c =
+    let uses = named_at c.args.uses.now in
+    let x = c.args.e.now in
+    walked c.returned.result (tree_of_kind uses x _ _ (c.in-Return.is ∙ ap (λ l. e.Return l c.in-Return.value) c.in-None.is) (kind_return_any uses c.in-Return.value)) c.returned.ensures (λ n w. w _ _)
 
-pub expr-returns-in_ok-n-in-Paren : goal.expr-returns-in_ok-n-in-Paren
-expr-returns-in_ok-n-in-Paren t c =
-    same_tree (tree_of_kind (named_at c.args.uses.now) c.args.e.now _ _ c.in-Paren.is (kind_paren (named_at c.args.uses.now) c.in-Paren.a)) (walk_paren c.in_ok-inner-in-Paren.ensures (expr_at (named_at c.args.uses.now) c.get.ensures c.in_ok-a-in-Paren.ensures) c.in_ok-n-in-Paren.ensures)
+pub expr-returns-in-Some : goal.expr-returns-in-Some
+expr-returns-in-Some t c =
+    let uses = named_at c.args.uses.now in
+    let x = c.args.e.now in
+    walked c.shut.result (tree_of_kind uses x _ _ (c.in-Return.is ∙ ap (λ l. e.Return l c.in-Return.value) c.in-Some.is) (kind_return_at_any uses _ c.in-Return.value)) c.shut.ensures (λ n w. w _ _)
 
-pub expr-returns-in_ok-n-in-Sign : goal.expr-returns-in_ok-n-in-Sign
-expr-returns-in_ok-n-in-Sign t c =
-    same_tree (tree_of_kind (named_at c.args.uses.now) c.args.e.now _ _ c.in-Sign.is (kind_sign (named_at c.args.uses.now) c.in-Sign.field-0 c.in-Sign.a)) (walk_unary c.in_ok-out-in-Sign.ensures (expr_at (named_at c.args.uses.now) c.get-in-Sign.ensures c.in_ok-a-in-Sign.ensures) c.in_ok-n-in-Sign.ensures (Sign' c.in-Sign.field-0) refl)
+pub expr-returns-in-Throw : goal.expr-returns-in-Throw
+expr-returns-in-Throw t c =
+    let uses = named_at c.args.uses.now in
+    let x = c.args.e.now in
+    walked c.thrown.result (tree_of_kind uses x _ _ c.in-Throw.is (kind_throw uses c.in-Throw.a) ∙ ap (λ y. Throw' (whole x.number x.span) (expr_tree uses y)) (sym c.get-in-Throw.ensures)) c.thrown.ensures (λ n w. w c.args.exits _ _)
 
-pub expr-returns-in_ok-n-in-Not : goal.expr-returns-in_ok-n-in-Not
-expr-returns-in_ok-n-in-Not t c =
-    same_tree (tree_of_kind (named_at c.args.uses.now) c.args.e.now _ _ c.in-Not.is (kind_not (named_at c.args.uses.now) c.in-Not.a)) (walk_not c.in_ok-on_true-in-Not.ensures (expr_at (named_at c.args.uses.now) c.get-in-Not.ensures c.in_ok-a-in-Not.ensures) c.in_ok-n-in-Not.ensures)
+pub expr-returns-in_default : goal.expr-returns-in_default
+expr-returns-in_default t c =
+    let d = c.in_default in
+    c.straight.ensures (record { no_negation = d.not-Not; no_conjunction = d.not-And; no_disjunction = d.not-Or; no_choice = d.not-If; no_return = d.not-Return; no_throw = d.not-Throw })
 
-pub expr-returns-in_ok-n-in-Sum : goal.expr-returns-in_ok-n-in-Sum
-expr-returns-in_ok-n-in-Sum t c =
-    same_tree (tree_of_kind (named_at c.args.uses.now) c.args.e.now _ _ c.in-Sum.is (kind_sum (named_at c.args.uses.now) c.in-Sum.a c.in-Sum.b)) (walk_binary c.in_ok-out-in-Sum.ensures (expr_at (named_at c.args.uses.now) c.get-in-Sum.ensures c.in_ok-b-in-Sum.ensures) (expr_at (named_at c.args.uses.now) c.get-in-Sum-2.ensures c.in_ok-a-in-Sum.ensures) c.in_ok-n-in-Sum.ensures Sum' refl)
+pub straight-returns-in-Int : goal.straight-returns-in-Int
+straight-returns-in-Int t c s =
+    let uses = named_at c.args.uses.now in
+    let x = c.args.e.now in
+    let leaf = no_part uses x c.in-Int.is in
+    walked c.leaf.result leaf.is c.leaf.ensures (λ n w. w _ _ leaf.operation leaf.returns)
 
-pub expr-returns-in_ok-n-in-Arithmetic : goal.expr-returns-in_ok-n-in-Arithmetic
-expr-returns-in_ok-n-in-Arithmetic t c =
-    same_tree (tree_of_kind (named_at c.args.uses.now) c.args.e.now _ _ c.in-Arithmetic.is (kind_arithmetic (named_at c.args.uses.now) c.in-Arithmetic.field-0 c.in-Arithmetic.a c.in-Arithmetic.b)) (walk_binary c.in_ok-out-in-Arithmetic.ensures (expr_at (named_at c.args.uses.now) c.get-in-Arithmetic.ensures c.in_ok-b-in-Arithmetic.ensures) (expr_at (named_at c.args.uses.now) c.get-in-Arithmetic-2.ensures c.in_ok-a-in-Arithmetic.ensures) c.in_ok-n-in-Arithmetic.ensures (Arithmetic' c.in-Arithmetic.field-0) refl)
+pub straight-returns-in-Name : goal.straight-returns-in-Name
+straight-returns-in-Name t c s =
+    let uses = named_at c.args.uses.now in
+    let x = c.args.e.now in
+    walked c.name.result (tree_of_kind uses x _ _ c.in-Name.is (kind_name uses c.in-Name.field-0)) c.name.ensures (λ n w. w x.span)
 
-pub expr-returns-in_ok-n-in-Compare : goal.expr-returns-in_ok-n-in-Compare
-expr-returns-in_ok-n-in-Compare t c =
-    same_tree (tree_of_kind (named_at c.args.uses.now) c.args.e.now _ _ c.in-Compare.is (kind_compare (named_at c.args.uses.now) c.in-Compare.field-0 c.in-Compare.a c.in-Compare.b)) (walk_binary c.in_ok-out-in-Compare.ensures (expr_at (named_at c.args.uses.now) c.get-in-Compare.ensures c.in_ok-b-in-Compare.ensures) (expr_at (named_at c.args.uses.now) c.get-in-Compare-2.ensures c.in_ok-a-in-Compare.ensures) c.in_ok-n-in-Compare.ensures (Compare' c.in-Compare.field-0) refl)
+pub straight-returns-in_ok-first-in-Template : goal.straight-returns-in_ok-first-in-Template
+straight-returns-in_ok-first-in-Template t c s =
+    let uses = named_at c.args.uses.now in
+    let x = c.args.e.now in
+    walked c.enter.result (tree_of_kind uses x _ _ c.in-Template.is (kind_template uses c.in-Template.parts)) c.enter.ensures
+    (λ n i. walk_operation (Template' (texts_of (map (piece uses) c.in-Template.parts))) c.in_ok-out-in-Template.ensures (same_trees (ap (λ l. inserted_of (map (piece uses) l)) (sym c.as_slice.ensures)) c.in_ok-first-in-Template.ensures) i)
 
-pub expr-returns-in_ok-n-in-Equal : goal.expr-returns-in_ok-n-in-Equal
-expr-returns-in_ok-n-in-Equal t c =
-    same_tree (tree_of_kind (named_at c.args.uses.now) c.args.e.now _ _ c.in-Equal.is (kind_equal (named_at c.args.uses.now) c.in-Equal.field-0 c.in-Equal.a c.in-Equal.b)) (walk_binary c.in_ok-out-in-Equal.ensures (expr_at (named_at c.args.uses.now) c.get-in-Equal.ensures c.in_ok-b-in-Equal.ensures) (expr_at (named_at c.args.uses.now) c.get-in-Equal-2.ensures c.in_ok-a-in-Equal.ensures) c.in_ok-n-in-Equal.ensures (Equal' c.in-Equal.field-0) refl)
+pub straight-returns-in_ok-a-in-Paren : goal.straight-returns-in_ok-a-in-Paren
+straight-returns-in_ok-a-in-Paren t c s =
+    let uses = named_at c.args.uses.now in
+    let x = c.args.e.now in
+    walked c.enter-in-Paren.result (tree_of_kind uses x _ _ c.in-Paren.is (kind_paren uses c.in-Paren.a)) c.enter-in-Paren.ensures
+    (λ n i. walk_paren c.in_ok-inner-in-Paren.ensures (expr_at uses c.get.ensures c.in_ok-a-in-Paren.ensures) i)
 
-pub expr-returns-in_ok-n-in-And : goal.expr-returns-in_ok-n-in-And
-expr-returns-in_ok-n-in-And t c =
-    same_tree (tree_of_kind (named_at c.args.uses.now) c.args.e.now _ _ c.in-And.is (kind_and (named_at c.args.uses.now) c.in-And.a c.in-And.b)) (walk_and c.in_ok-on_true-in-And.ensures (expr_at (named_at c.args.uses.now) c.get-in-And.ensures c.in_ok-b-in-And.ensures) (expr_at (named_at c.args.uses.now) c.get-in-And-2.ensures c.in_ok-a-in-And.ensures) c.in_ok-n-in-And.ensures)
+pub straight-returns-in-None : goal.straight-returns-in-None
+straight-returns-in-None t c s =
+    let uses = named_at c.args.uses.now in
+    let x = c.args.e.now in
+    walked c.call.result (tree_of_kind uses x _ _ (c.in-Call.is ∙ ap (e.Call c.in-Call.callee c.in-Call.arguments) c.in-None.is) (kind_call uses c.in-Call.callee c.in-Call.arguments) ∙ ap (λ l. call_tree (uses x.number) (seen_trees (map (seen uses) l)) (named_there x.number x.span c.in-Call.callee.span)) (sym c.as_slice-in-None.ensures)) c.call.ensures (λ n w. w _ _)
 
-pub expr-returns-in_ok-n-in-Or : goal.expr-returns-in_ok-n-in-Or
-expr-returns-in_ok-n-in-Or t c =
-    same_tree (tree_of_kind (named_at c.args.uses.now) c.args.e.now _ _ c.in-Or.is (kind_or (named_at c.args.uses.now) c.in-Or.a c.in-Or.b)) (walk_or c.in_ok-on_true-in-Or.ensures (expr_at (named_at c.args.uses.now) c.get-in-Or.ensures c.in_ok-b-in-Or.ensures) (expr_at (named_at c.args.uses.now) c.get-in-Or-2.ensures c.in_ok-a-in-Or.ensures) c.in_ok-n-in-Or.ensures)
+pub straight-returns-in-Some : goal.straight-returns-in-Some
+straight-returns-in-Some t c s =
+    let uses = named_at c.args.uses.now in
+    let x = c.args.e.now in
+    walked c.shut.result (tree_of_kind uses x _ _ (c.in-Call.is ∙ ap (e.Call c.in-Call.callee c.in-Call.arguments) c.in-Some.is) (kind_call_with uses c.in-Call.callee c.in-Call.arguments _)) c.shut.ensures (λ n w. w _ _)
 
-pub expr-returns-in_ok-n-in-If : goal.expr-returns-in_ok-n-in-If
-expr-returns-in_ok-n-in-If t c =
-    same_tree (tree_of_kind (named_at c.args.uses.now) c.args.e.now _ _ c.in-If.is (kind_if_any (named_at c.args.uses.now) c.in-If.condition c.in-If.then c.in-If.otherwise)) (walk_if c.in_ok-out-in-If.ensures c.in_ok-on_false-in-If.ensures (branch_at (named_at c.args.uses.now) c.get-in-If.ensures c.in_ok-on_true-in-If.ensures) (expr_at (named_at c.args.uses.now) c.get-in-If-2.ensures c.in_ok-c-in-If.ensures) c.in_ok-n-in-If.ensures)
+pub straight-returns-in_ok-a-in-Sign : goal.straight-returns-in_ok-a-in-Sign
+straight-returns-in_ok-a-in-Sign t c s =
+    let uses = named_at c.args.uses.now in
+    let x = c.args.e.now in
+    walked c.enter-in-Sign.result (tree_of_kind uses x _ _ c.in-Sign.is (kind_sign uses c.in-Sign.field-0 c.in-Sign.a)) c.enter-in-Sign.ensures
+    (λ n i. walk_unary c.in_ok-out-in-Sign.ensures (expr_at uses c.get-in-Sign.ensures c.in_ok-a-in-Sign.ensures) i (Sign' c.in-Sign.field-0) refl)
 
-pub expr-returns-in_ok-n-in-Throw : goal.expr-returns-in_ok-n-in-Throw
-expr-returns-in_ok-n-in-Throw t c =
-    same_tree (tree_of_kind (named_at c.args.uses.now) c.args.e.now _ _ c.in-Throw.is (kind_throw (named_at c.args.uses.now) c.in-Throw.a)) (walk_throw c.in_ok-out-in-Throw.ensures (expr_at (named_at c.args.uses.now) c.get-in-Throw.ensures c.in_ok-a-in-Throw.ensures) c.in_ok-n-in-Throw.ensures)
+pub straight-returns-in_ok-a-in-Sum : goal.straight-returns-in_ok-a-in-Sum
+straight-returns-in_ok-a-in-Sum t c s =
+    let uses = named_at c.args.uses.now in
+    let x = c.args.e.now in
+    let both = two_parts uses x c.in-Sum.a c.in-Sum.b c.in-Sum.is in
+    walked c.enter-in-Sum.result both.is c.enter-in-Sum.ensures
+    (λ n i. walk_binary c.in_ok-out-in-Sum.ensures (expr_at uses c.get-in-Sum.ensures c.in_ok-b-in-Sum.ensures) (expr_at uses c.get-in-Sum-2.ensures c.in_ok-a-in-Sum.ensures) i both.operation both.returns)
 
-pub expr-returns-in_ok-n-in_default : goal.expr-returns-in_ok-n-in_default
-expr-returns-in_ok-n-in_default t c =
-    same_tree (tree_of_kind (named_at c.args.uses.now) c.args.e.now c.args.e.now.kind shut refl (kind_other (named_at c.args.uses.now) c.args.e.now.kind c.in_default.not-Int c.in_default.not-Bool c.in_default.not-Null c.in_default.not-Name c.in_default.not-Template c.in_default.not-Paren c.in_default.not-Call c.in_default.not-Sign c.in_default.not-Not c.in_default.not-Sum c.in_default.not-Arithmetic c.in_default.not-Compare c.in_default.not-Equal c.in_default.not-And c.in_default.not-Or c.in_default.not-If c.in_default.not-Return c.in_default.not-Throw)) (c.in_ok-n-in_default.ensures _ _)
+pub straight-returns-in_default : goal.straight-returns-in_default
+straight-returns-in_default t c s =
+    let uses = named_at c.args.uses.now in
+    let x = c.args.e.now in
+    let d = c.in_default in
+    walked c.shut-in_default.result (tree_of_kind uses x x.kind shut refl (kind_other uses x.kind d.not-Int d.not-Bool d.not-Null d.not-Name d.not-Template d.not-Paren d.not-Call d.not-Sign s.no_negation d.not-Sum d.not-Arithmetic d.not-Compare d.not-Equal s.no_conjunction s.no_disjunction s.no_choice s.no_return s.no_throw)) c.shut-in_default.ensures (λ n w. w _ _)
+
+pub thrown-returns : goal.thrown-returns
+thrown-returns t c exits at word =
+    walk_throw c.in_ok-out.ensures c.in_ok-a.ensures c.in_ok-n.ensures
 
 pub statements-loop-i-init : goal.statements-loop-i-init
 statements-loop-i-init t c = record {
@@ -199,22 +248,6 @@ otherwise-returns-in-None t c =
 pub piece-returns-in-Text : goal.piece-returns-in-Text
 piece-returns-in-Text t c =
     same_trees (ap (λ w. inserted_of (piece (named_at c.args.uses.now) w ∷ [])) c.in-Text.is ∙ ap (λ w. inserted_of (w ∷ [])) (piece_text (named_at c.args.uses.now) _)) (walk_empty c.args.self.now c.args.context c.args.next)
-
-pub expr-returns-in_ok-n-in-None : goal.expr-returns-in_ok-n-in-None
-expr-returns-in_ok-n-in-None t c =
-    same_tree (tree_of_kind (named_at c.args.uses.now) c.args.e.now _ _ (c.in-Call.is ∙ ap (e.Call c.in-Call.callee c.in-Call.arguments) c.in-None.is) (kind_call (named_at c.args.uses.now) c.in-Call.callee c.in-Call.arguments)) (same_tree (ap (λ l. call_tree (named_at c.args.uses.now c.args.e.now.number) (seen_trees (map (seen (named_at c.args.uses.now)) l)) (named_there c.args.e.now.number c.args.e.now.span c.in-Call.callee.span)) (sym c.as_slice-in-None.ensures)) (c.in_ok-n-in-None.ensures _ _))
-
-pub expr-returns-in_ok-n-in-Some : goal.expr-returns-in_ok-n-in-Some
-expr-returns-in_ok-n-in-Some t c =
-    same_tree (tree_of_kind (named_at c.args.uses.now) c.args.e.now _ _ (c.in-Call.is ∙ ap (e.Call c.in-Call.callee c.in-Call.arguments) c.in-Some.is) (kind_call_with (named_at c.args.uses.now) c.in-Call.callee c.in-Call.arguments _)) (c.in_ok-n-in-Some.ensures _ _)
-
-pub expr-returns-in_ok-n-in-None-label : goal.expr-returns-in_ok-n-in-None-label
-expr-returns-in_ok-n-in-None-label t c =
-    same_tree (tree_of_kind (named_at c.args.uses.now) c.args.e.now _ _ (c.in-Return.is ∙ ap (λ l. e.Return l c.in-Return.value) c.in-None-label.is) (kind_return_any (named_at c.args.uses.now) c.in-Return.value)) (c.in_ok-n-in-None-label.ensures _ _)
-
-pub expr-returns-in_ok-n-in-Some-label : goal.expr-returns-in_ok-n-in-Some-label
-expr-returns-in_ok-n-in-Some-label t c =
-    same_tree (tree_of_kind (named_at c.args.uses.now) c.args.e.now _ _ (c.in-Return.is ∙ ap (λ l. e.Return l c.in-Return.value) c.in-Some-label.is) (kind_return_at_any (named_at c.args.uses.now) _ c.in-Return.value)) (c.in_ok-n-in-Some-label.ensures _ _)
 
 pub assign-returns-then-not-is_name : goal.assign-returns-then-not-is_name
 assign-returns-then-not-is_name t c at word =
