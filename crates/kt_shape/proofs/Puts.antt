@@ -18,7 +18,7 @@ put_both (Ok a) new old mid xs ys e m h =
 put_both (Err x) new old mid xs ys e m h = tt
 
 -- three parts
-pub put_three : {A E B : Type 0} (r : Result A E) (new old mid late : List B) (xs ys zs : List B) {all : List B} → all ≡ xs ++ (ys ++ zs) → mid ≡ old ++ xs → late ≡ mid ++ ys → OnOk r (new ≡ late ++ zs) → OnOk r (new ≡ old ++ all)
+pub put_three : {A E B : Type 0} (r : Result A E) (new old mid late : List B) (xs ys zs : List B) {all : List B} → all ≡ xs ++ ys ++ zs → mid ≡ old ++ xs → late ≡ mid ++ ys → OnOk r (new ≡ late ++ zs) → OnOk r (new ≡ old ++ all)
 put_three (Ok a) new old mid late xs ys zs e m l h =
-    h ∙ ap (λ z. z ++ zs) (l ∙ ap (λ z. z ++ ys) m ∙ append_assoc old xs ys) ∙ append_assoc old (xs ++ ys) zs ∙ ap (λ z. old ++ z) (append_assoc xs ys zs ∙ sym e)
+    h ∙ ap (λ z. z ++ zs) (l ∙ ap (λ z. z ++ ys) m ∙ append_assoc old xs ys) ∙ append_assoc old (xs ++ ys) zs ∙ ap (λ z. old ++ z) (sym e)
 put_three (Err x) new old mid late xs ys zs e m l h = tt

@@ -2,10 +2,9 @@
 ghost use Rattle.std.specs.Prelude.{◌≡◌, ◌++◌, OnOk};
 ghost use Rattle.std.specs.List.{flat_map};
 ghost use Rattle.kt_model.specs.Sites as sites;
-ghost use Rattle.kt_shape.specs.ShapeRules.{no_finding, assign_target};
-ghost use Rattle.kt_shape.specs.TreeWalks.{expr_gives, effect_kind_gives, effect_gives, contract_gives, body_gives, value_gives, values_give, getter_gives, member_gives, class_gives, function_gives};
+ghost use Rattle.kt_shape.specs.ShapeRules as spec;
 
-use crate::left_sides::{in_block, in_expr};
+use crate::walk::{in_block, in_expr};
 use kt_model::finding::Finding;
 use kt_tree::NoMemory;
 use kt_tree::ast::{
@@ -18,16 +17,16 @@ use sqlite_items::Items;
 type Found = Vec<Finding>;
 
 fn in_effect(kind: &EffectKind, out: &mut Found) -> Result<(), NoMemory>
-    ensures { OnOk result (out.new.items ≡ out.old.items ++ effect_kind_gives no_finding assign_target kind.now) }
+    ensures { OnOk result (out.new.items ≡ out.old.items ++ spec.in_effect_kind kind.now) }
 {
     match kind {
-        EffectKind::Returns { condition, .. } => in_expr(condition, out),
+        EffectKind::Returns { condition, .. } => in_expr(condition, true, out),
         EffectKind::CallsInPlace { .. } => Ok(()),
     }
 }
 
 fn in_effects(effects: &[Effect], out: &mut Found) -> Result<(), NoMemory>
-    ensures { OnOk result (out.new.items ≡ out.old.items ++ flat_map (effect_gives no_finding assign_target) effects.now) }
+    ensures { OnOk result (out.new.items ≡ out.old.items ++ flat_map spec.in_effect effects.now) }
 {
     for e in effects {
         in_effect(&e.kind, out)?;
@@ -36,7 +35,7 @@ fn in_effects(effects: &[Effect], out: &mut Found) -> Result<(), NoMemory>
 }
 
 fn in_contract(contract: &Option<Contract>, out: &mut Found) -> Result<(), NoMemory>
-    ensures { OnOk result (out.new.items ≡ out.old.items ++ contract_gives no_finding assign_target contract.now) }
+    ensures { OnOk result (out.new.items ≡ out.old.items ++ spec.in_contract contract.now) }
 {
     match contract {
         Some(c) => in_effects(c.effects.as_slice(), out),
@@ -45,19 +44,19 @@ fn in_contract(contract: &Option<Contract>, out: &mut Found) -> Result<(), NoMem
 }
 
 fn in_written_body(body: &FunctionBody, out: &mut Found) -> Result<(), NoMemory>
-    ensures { OnOk result (out.new.items ≡ out.old.items ++ body_gives no_finding assign_target (Some body.now)) }
+    ensures { OnOk result (out.new.items ≡ out.old.items ++ spec.in_body (Some body.now)) }
 {
     match body {
-        FunctionBody::Expr(e) => in_expr(e, out),
+        FunctionBody::Expr(e) => in_expr(e, true, out),
         FunctionBody::Block { contract, block } => {
             in_contract(contract, out)?;
-            in_block(block, out)
+            in_block(block, false, out)
         }
     }
 }
 
 fn in_body(body: &Option<FunctionBody>, out: &mut Found) -> Result<(), NoMemory>
-    ensures { OnOk result (out.new.items ≡ out.old.items ++ body_gives no_finding assign_target body.now) }
+    ensures { OnOk result (out.new.items ≡ out.old.items ++ spec.in_body body.now) }
 {
     match body {
         Some(body) => in_written_body(body, out),
@@ -66,16 +65,16 @@ fn in_body(body: &Option<FunctionBody>, out: &mut Found) -> Result<(), NoMemory>
 }
 
 fn in_value(value: &Option<Expr>, out: &mut Found) -> Result<(), NoMemory>
-    ensures { OnOk result (out.new.items ≡ out.old.items ++ value_gives no_finding assign_target value.now) }
+    ensures { OnOk result (out.new.items ≡ out.old.items ++ spec.in_value value.now) }
 {
     match value {
-        Some(e) => in_expr(e, out),
+        Some(e) => in_expr(e, true, out),
         None => Ok(()),
     }
 }
 
 fn in_getter(getter: &Option<Getter>, out: &mut Found) -> Result<(), NoMemory>
-    ensures { OnOk result (out.new.items ≡ out.old.items ++ getter_gives no_finding assign_target getter.now) }
+    ensures { OnOk result (out.new.items ≡ out.old.items ++ spec.in_getter getter.now) }
 {
     match getter {
         Some(g) => in_written_body(&g.body, out),
@@ -84,10 +83,10 @@ fn in_getter(getter: &Option<Getter>, out: &mut Found) -> Result<(), NoMemory>
 }
 
 fn in_member(member: &Member, out: &mut Found) -> Result<(), NoMemory>
-    ensures { OnOk result (out.new.items ≡ out.old.items ++ member_gives no_finding assign_target member.now) }
+    ensures { OnOk result (out.new.items ≡ out.old.items ++ spec.in_member member.now) }
 {
     match member {
-        Member::Init(block) => in_block(block, out),
+        Member::Init(block) => in_block(block, false, out),
         Member::Function(f) => in_body(&f.body, out),
         Member::Property(p) => {
             in_value(&p.value, out)?;
@@ -97,7 +96,7 @@ fn in_member(member: &Member, out: &mut Found) -> Result<(), NoMemory>
 }
 
 fn in_members(members: &[Member], out: &mut Found) -> Result<(), NoMemory>
-    ensures { OnOk result (out.new.items ≡ out.old.items ++ flat_map (member_gives no_finding assign_target) members.now) }
+    ensures { OnOk result (out.new.items ≡ out.old.items ++ flat_map spec.in_member members.now) }
 {
     for m in members {
         in_member(m, out)?;
@@ -106,16 +105,16 @@ fn in_members(members: &[Member], out: &mut Found) -> Result<(), NoMemory>
 }
 
 fn in_values(values: &[Expr], out: &mut Found) -> Result<(), NoMemory>
-    ensures { OnOk result (out.new.items ≡ out.old.items ++ flat_map (expr_gives no_finding assign_target) values.now) }
+    ensures { OnOk result (out.new.items ≡ out.old.items ++ flat_map spec.in_part values.now) }
 {
     for e in values {
-        in_expr(e, out)?;
+        in_expr(e, true, out)?;
     }
     Ok(())
 }
 
 fn in_arguments(arguments: &Option<Items<Expr>>, out: &mut Found) -> Result<(), NoMemory>
-    ensures { OnOk result (out.new.items ≡ out.old.items ++ values_give no_finding assign_target arguments.now) }
+    ensures { OnOk result (out.new.items ≡ out.old.items ++ spec.in_values arguments.now) }
 {
     match arguments {
         Some(values) => in_values(values.as_slice(), out),
@@ -124,7 +123,7 @@ fn in_arguments(arguments: &Option<Items<Expr>>, out: &mut Found) -> Result<(), 
 }
 
 fn in_supertypes(supertypes: &[Supertype], out: &mut Found) -> Result<(), NoMemory>
-    ensures { OnOk result (out.new.items ≡ out.old.items ++ flat_map (λ s. values_give no_finding assign_target s.arguments) supertypes.now) }
+    ensures { OnOk result (out.new.items ≡ out.old.items ++ flat_map (λ s. spec.in_values s.arguments) supertypes.now) }
 {
     for s in supertypes {
         in_arguments(&s.arguments, out)?;
@@ -142,9 +141,9 @@ fn declared_in(c: &ClassDecl) -> &[Member]
     }
 }
 
-#[tactic(auto, unfolding(kt_model::specs::TreeWalks::class_gives))]
+#[tactic(auto, unfolding(crate::specs::ShapeRules::in_class))]
 fn in_class(c: &ClassDecl, out: &mut Found) -> Result<(), NoMemory>
-    ensures { OnOk result (out.new.items ≡ out.old.items ++ class_gives no_finding assign_target c.now) }
+    ensures { OnOk result (out.new.items ≡ out.old.items ++ spec.in_class c.now) }
 {
     in_supertypes(c.supertypes.as_slice(), out)?;
     in_members(declared_in(c), out)
@@ -152,7 +151,7 @@ fn in_class(c: &ClassDecl, out: &mut Found) -> Result<(), NoMemory>
 
 /// Puts in what is violated in classes, one behind another.
 pub(crate) fn in_classes(classes: &[ClassDecl], out: &mut Found) -> Result<(), NoMemory>
-    ensures { OnOk result (out.new.items ≡ out.old.items ++ flat_map (class_gives no_finding assign_target) classes.now) }
+    ensures { OnOk result (out.new.items ≡ out.old.items ++ flat_map spec.in_class classes.now) }
 {
     for c in classes {
         in_class(c, out)?;
@@ -160,16 +159,16 @@ pub(crate) fn in_classes(classes: &[ClassDecl], out: &mut Found) -> Result<(), N
     Ok(())
 }
 
-#[tactic(auto, unfolding(kt_model::specs::TreeWalks::function_gives))]
+#[tactic(auto, unfolding(crate::specs::ShapeRules::in_function))]
 fn in_function(f: &FunctionDecl, out: &mut Found) -> Result<(), NoMemory>
-    ensures { OnOk result (out.new.items ≡ out.old.items ++ function_gives no_finding assign_target f.now) }
+    ensures { OnOk result (out.new.items ≡ out.old.items ++ spec.in_function f.now) }
 {
     in_body(&f.body, out)
 }
 
 /// Puts in what is violated in functions, one behind another.
 pub(crate) fn in_functions(functions: &[FunctionDecl], out: &mut Found) -> Result<(), NoMemory>
-    ensures { OnOk result (out.new.items ≡ out.old.items ++ flat_map (function_gives no_finding assign_target) functions.now) }
+    ensures { OnOk result (out.new.items ≡ out.old.items ++ flat_map spec.in_function functions.now) }
 {
     for f in functions {
         in_function(f, out)?;

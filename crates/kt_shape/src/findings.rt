@@ -11,7 +11,7 @@ use kt_tree::ast::File;
 use std::alloc::Global;
 
 /// All that is violated, in the order of the walk: in the classes, then in the functions.
-#[tactic(auto, unfolding(kt_model::specs::ShapeRules::shape_findings))]
+#[tactic(auto, unfolding(crate::specs::ShapeRules::shape_findings))]
 fn all_findings(alloc: Global, file: &File) -> Result<Vec<Finding>, NoMemory>
     ensures { IfOk result (λ found. found.items ≡ shape_findings file.now) }
 {
@@ -29,9 +29,10 @@ fn found_in_order(alloc: Global, file: &File) -> Result<Findings, NoMemory>
     Ok(in_order(found))
 }
 
-/// Nothing, where no rule on the shapes of trees is violated: each left side is a name or a member behind `.` (Kotlin specification, "Assignments"; an
-/// index is not in the profile). Else the fault has exactly what is violated, each at the span of its left side, sorted by start, end and code, none
-/// twice; or there is no memory for it.
+/// Nothing, where no rule on the shapes of trees is violated. Each left side is a name or a member behind `.` (Kotlin specification, "Assignments"; an index
+/// is not in the profile). Each `if` and `when` whose value is taken has an `else` ("Conditional expressions", "When expressions"), and no branch of it that
+/// stands without braces is an assignment or a loop. Else the fault has exactly what is violated, each at the span of its left side, its `if` or `when`, or its
+/// branch's statement, sorted by start, end and code, none twice; or there is no memory for it.
 pub fn shapes(alloc: Global, file: &File) -> Result<(), PhaseFault>
     ensures accepted { IfOk result (λ _. (f : Finding) → IsShapeViolated file.now f → ⊥) }
     ensures fault { IfErr result (IsFault (IsShapeViolated file.now)) }

@@ -1,12 +1,12 @@
-//! The rules on the shapes of trees: what stands on left sides. Below stand the trees and the written rules; above stands what checks a whole source.
+//! The rules on the shapes of trees: what stands on left sides, and what an `if` or a `when` whose value is taken lacks. Below stand the trees and the written rules; above stands what checks a whole source.
 //! Its public contract is that of `shapes`: nothing is violated, or exactly what is.
 #![tactic(auto)]
 
 mod declarations;
 mod findings;
-mod left_sides;
-mod targets;
+mod kinds;
 #[cfg(test)]
 mod tests;
+mod walk;
 
 pub use findings::shapes;

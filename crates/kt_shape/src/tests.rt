@@ -1,8 +1,9 @@
-//! A file whose left sides may be assigned, and one with left sides that may not.
+//! Files whose shapes are allowed, and files in which each rule on shapes is violated.
 use crate::shapes;
 use kt_model::finding::{Finding, PhaseFault, Rule};
 use kt_tree::ast::{
-    Access, Assignment, Block, Expr, ExprKind, File, FunctionBody, FunctionDecl, Ident, Stmt,
+    Access, Assignment, Block, Branch, Expr, ExprKind, File, FunctionBody, FunctionDecl, Ident,
+    Stmt,
 };
 use kt_tree::{Names, NoMemory, Span};
 use sqlite_items::{Boxed, Items};
@@ -52,6 +53,46 @@ fn assign(number: u32, target: Expr) -> Stmt {
         target,
         assignment: Assignment::Plain,
         value: Some(tree(100, ExprKind::Int(1))),
+    }
+}
+
+/// A number that stands as a statement, which is the tree with that number.
+fn digit(number: u8) -> Stmt {
+    Stmt::Expr(tree(number, ExprKind::Int(1)))
+}
+
+/// An `if` with these branches, which is the tree with that number. Its condition is the tree 99.
+fn choice(
+    alloc: Global,
+    number: u8,
+    then: Stmt,
+    otherwise: Option<Stmt>,
+) -> Result<Expr, NoMemory> {
+    let condition = Boxed::new(alloc, tree(99, ExprKind::Bool(true)))?;
+    let then = Boxed::new(alloc, Branch::Single(then))?;
+    let otherwise = match otherwise {
+        Some(s) => Some(Boxed::new(alloc, Branch::Single(s))?),
+        None => None,
+    };
+    Ok(tree(
+        number,
+        ExprKind::If {
+            condition,
+            then,
+            otherwise,
+        },
+    ))
+}
+
+/// The declaration of a local by that value.
+fn local(value: Expr) -> Stmt {
+    Stmt::Local {
+        number: 1,
+        span: at(1),
+        is_var: false,
+        name: ident(32, 7),
+        written: None,
+        value: Some(value),
     }
 }
 
@@ -110,6 +151,44 @@ fn others_are_found_in_order(rt: HostRuntime) -> Result<(), Fail> {
         Finding {
             rule: Rule::AssignTarget,
             span: at(80),
+        },
+    ];
+    assert!(rt; found.as_slice() == wanted.as_slice());
+    Ok(())
+}
+
+#[test]
+fn an_else_lacks_nowhere(rt: HostRuntime) -> Result<(), Fail> {
+    let alloc = rt.alloc();
+    let mut statements = Items::new(alloc);
+    statements.push(local(choice(alloc, 2, digit(3), Some(digit(4)))?))?;
+    let alone = assign(5, tree(6, ExprKind::Name(30)));
+    statements.push(Stmt::Expr(choice(alloc, 7, alone, None)?))?;
+    let file = file_of(alloc, statements)?;
+    let answer = shapes(alloc, &file);
+    assert!(rt; answer.is_ok());
+    Ok(())
+}
+
+#[test]
+fn a_value_lacks(rt: HostRuntime) -> Result<(), Fail> {
+    let alloc = rt.alloc();
+    let mut statements = Items::new(alloc);
+    statements.push(local(choice(alloc, 2, digit(3), None)?))?;
+    let assigned = assign(45, tree(6, ExprKind::Name(30)));
+    statements.push(local(choice(alloc, 4, assigned, Some(digit(7)))?))?;
+    let file = file_of(alloc, statements)?;
+    let Err(PhaseFault::Findings(found)) = shapes(alloc, &file) else {
+        return Err(Fail::from("accepted"));
+    };
+    let wanted = [
+        Finding {
+            rule: Rule::NoElse,
+            span: at(20),
+        },
+        Finding {
+            rule: Rule::ValueExpected,
+            span: at(45),
         },
     ];
     assert!(rt; found.as_slice() == wanted.as_slice());

@@ -1,8 +1,7 @@
 use Rattle.std.proofs.Common.{◌≡◌, ◌++◌, take}
 use Rattle.std.specs.List.{flat_map}
-use Rattle.kt_shape.specs.ShapeRules.{no_finding, assign_target}
-use Rattle.kt_shape.specs.TreeWalks.{effect_gives}
+use Rattle.kt_shape.specs.ShapeRules.{in_effect}
 use Rattle.kt_shape.proofs.declarations.in_effects.Given as goal
 
 abbrev pub invariant-loop-e : goal.invariant-loop-e
-invariant-loop-e l = l.out.items ≡ l.fn.out.items ++ flat_map (effect_gives no_finding assign_target) (take l.e-index l.effects)
+invariant-loop-e l = l.out.items ≡ l.fn.out.items ++ flat_map in_effect (take l.e-index l.effects)

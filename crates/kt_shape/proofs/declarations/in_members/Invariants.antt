@@ -1,8 +1,7 @@
 use Rattle.std.proofs.Common.{◌≡◌, ◌++◌, take}
 use Rattle.std.specs.List.{flat_map}
-use Rattle.kt_shape.specs.ShapeRules.{no_finding, assign_target}
-use Rattle.kt_shape.specs.TreeWalks.{member_gives}
+use Rattle.kt_shape.specs.ShapeRules.{in_member}
 use Rattle.kt_shape.proofs.declarations.in_members.Given as goal
 
 abbrev pub invariant-loop-m : goal.invariant-loop-m
-invariant-loop-m l = l.out.items ≡ l.fn.out.items ++ flat_map (member_gives no_finding assign_target) (take l.m-index l.members)
+invariant-loop-m l = l.out.items ≡ l.fn.out.items ++ flat_map in_member (take l.m-index l.members)
