@@ -1,14 +1,12 @@
 -- What one event adds to where a pass stands.
-use Rattle.std.proofs.Common.{◌≡◌, ℕ, suc, ◌+◌, Bool, true, false, List, [], ◌∷◌, ◌++◌, ◌&&◌, not, length, reverse, Option, Some, None, option_map, is_some, refl, sym, ap, ◌∙◌, append_assoc, append-nil, arith, length-append}
+use Rattle.std.proofs.Common.{◌≡◌, ℕ, suc, ◌+◌, Bool, List, [], ◌∷◌, ◌++◌, ◌&&◌, not, length, reverse, Option, Some, None, option_map, is_some, refl, sym, ap, ◌∙◌, append_assoc, append-nil, arith, length-append}
 use Rattle.std.specs.Prelude.{Result, Ok, Err, OnOk}
 use Rattle.std.proofs.lemmas.List.{reverse-append}
 use Rattle.kt_tree.specs.declared.token.Span.{Span}
 use Rattle.kt_tree.specs.declared.ast.part.Ident.{Ident}
 use Rattle.kt_tree.specs.declared.ast.part.TypeRef.{TypeRef}
-use Rattle.kt_model.specs.declared.finding.Finding.{Finding}
 use Rattle.kt_model.specs.declared.finding.Rule.TheVariants.{UnknownName, NotAValue, NotAFunction, DuplicateLocal}
 use Rattle.kt_model.specs.declared.uses.Declaration.{Declaration}
-use Rattle.kt_model.specs.declared.name_events.NameEvent.{NameEvent}
 use Rattle.kt_model.specs.declared.name_events.NameEvent.TheVariants.{Opens, Closes, Parameter, Local, Reads, Calls, Assigns}
 use Rattle.kt_model.specs.DeclarationRules.{where_}
 use Rattle.kt_model.specs.TopNames.{Tops}
@@ -18,7 +16,7 @@ use Rattle.kt_model.specs.Scopes.{Top, OfFunction, OfClass, Unnamed, top_named, 
 use Rattle.kt_scope.specs.declared.scopes.Open.{Open}
 use Rattle.kt_scope.specs.declared.scopes.Open.TheVariants.{Scope, Variable}
 use Rattle.kt_scope.specs.declared.resolver.Resolver.{Resolver}
-use Rattle.kt_scope.specs.Stack.{closed, variable_in, is_declared_in, opened, given, value_findings, call_findings, Reaches}
+use Rattle.kt_scope.specs.Stack.{closed, variable_in, is_declared_in, opened, value_findings, call_findings, Reaches}
 use Rattle.kt_scope.proofs.Steps.{variable_is, declared_is}
 
 -- one more at the end

@@ -1,5 +1,5 @@
 -- The stack of open scopes is what looking back finds.
-use Rattle.std.proofs.Common.{◌≡◌, ℕ, zero, suc, ◌+◌, ◌<◌, ◌==◌, ◌||◌, Bool, true, false, List, [], ◌∷◌, ◌++◌, length, reverse, take, get_or, Option, Some, None, option_map, cond, refl, sym, ap, ◌∙◌, append_assoc, append-nil}
+use Rattle.std.proofs.Common.{◌≡◌, ℕ, zero, suc, ◌+◌, ◌<◌, ◌==◌, ◌||◌, Bool, true, false, List, [], ◌∷◌, ◌++◌, length, reverse, take, get_or, Option, Some, option_map, cond, refl, sym, ap, ◌∙◌, append_assoc, append-nil}
 use Rattle.std.proofs.Math.Seq.{take-suc}
 use Rattle.std.proofs.lemmas.List.{reverse-append}
 use Rattle.kt_model.specs.declared.name_events.NameEvent.{NameEvent}
@@ -8,7 +8,6 @@ use Rattle.kt_model.specs.NameEvents.{Events}
 use Rattle.kt_model.specs.NameRules.{is_declared_here}
 use Rattle.kt_model.specs.Scopes.{nearest, declared_count, looking_back}
 use Rattle.kt_scope.specs.declared.scopes.Open.{Open}
-use Rattle.kt_scope.specs.declared.scopes.Open.TheVariants.{Scope, Variable}
 use Rattle.kt_scope.specs.Stack.{closed, variable_in, is_declared_in, opened, given}
 
 -- what stands at a place is the first of what stands up to it, backwards

@@ -5,7 +5,7 @@ use Rattle.kt_model.specs.declared.finding.Finding.{Finding}
 use Rattle.kt_model.specs.declared.finding.Rule.TheVariants.{UnknownName, NotAValue, NotAFunction}
 use Rattle.kt_model.specs.declared.uses.Declaration.{Declaration}
 use Rattle.kt_model.specs.declared.name_events.NameEvent.{NameEvent}
-use Rattle.kt_model.specs.declared.name_events.NameEvent.TheVariants.{Opens, Closes, Parameter, Local, Reads, Calls, Assigns}
+use Rattle.kt_model.specs.declared.name_events.NameEvent.TheVariants.{Opens, Closes, Parameter, Local}
 use Rattle.kt_model.specs.TopNames.{Tops}
 use Rattle.kt_model.specs.DeclarationRules.{where_}
 use Rattle.kt_model.specs.NameEvents.{Events}

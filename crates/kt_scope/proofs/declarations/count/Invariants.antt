@@ -1,4 +1,4 @@
-use Rattle.std.proofs.Common.{◌≡◌, ◌+◌, ◌≤◌, drop, length}
+use Rattle.std.proofs.Common.{◌≡◌, ◌+◌, ◌≤◌, drop}
 use Rattle.kt_model.specs.Scopes.{declared_count}
 use Rattle.kt_scope.proofs.declarations.count.Given as goal
 

@@ -1,8 +1,8 @@
-use Rattle.std.proofs.Common.{◌≡◌, ◌++◌, ◌∷◌, [], ap, sym, ◌∙◌, refl, option_map, append_assoc, None, Some, arith}
+use Rattle.std.proofs.Common.{◌≡◌, ◌++◌, ◌∷◌, [], ap, sym, ◌∙◌, refl, option_map, append_assoc, arith}
 use Rattle.std.specs.List.{flat_map}
 use Rattle.kt_tree.specs.declared.ast.body.ExprKind.TheVariants as e
-use Rattle.kt_model.specs.declared.name_events.NameEvent.TheVariants.{Calls, Opens, Closes, Local}
-use Rattle.kt_model.specs.NameEvents.{within, seen_events_kind, expr_events, stmt_events, block_events, branch_events, piece_events, seen_events, if_written, if_there, left_events}
+use Rattle.kt_model.specs.declared.name_events.NameEvent.TheVariants.{Calls, Opens, Closes}
+use Rattle.kt_model.specs.NameEvents.{within, seen_events_kind, expr_events, stmt_events, branch_events, piece_events, if_there}
 use Rattle.kt_scope.proofs.EventFolds as fold
 use Rattle.kt_scope.proofs.Puts.{put_in, put_both, put_three, put_none}
 use Rattle.kt_scope.proofs.events.+events.Goals as goal

@@ -1,12 +1,10 @@
-use Rattle.std.proofs.Common.{◌≡◌, ◌+◌, ◌∙◌, ◌↔◌, [], map, length, Contains, ap, sym, subst, arith}
+use Rattle.std.proofs.Common.{◌≡◌, ◌+◌, ◌∙◌, ◌↔◌, [], map, length, Contains, ap, sym, subst}
 use Rattle.std.specs.List.Sorted.{IsStrictlyIncreasing}
-use Rattle.std.proofs.lemmas.List.{length-map}
-use Rattle.kt_tree.specs.declared.ast.declaration.FunctionDecl.{FunctionDecl}
 use Rattle.kt_model.specs.declared.uses.UseRow.{UseRow}
 use Rattle.kt_model.specs.NameUses.{Resolved}
 use Rattle.kt_model.specs.NameEvents.{file_events}
 use Rattle.kt_model.specs.TopNames.{top_names}
-use Rattle.kt_model.specs.Scopes.{looking_back, use_by, first_variable, parameters_from}
+use Rattle.kt_model.specs.Scopes.{looking_back, use_by, parameters_from}
 use Rattle.kt_scope.proofs.Whole.{first_is, none_there}
 use Rattle.kt_scope.proofs.uses.resolve.Goals as goal
 

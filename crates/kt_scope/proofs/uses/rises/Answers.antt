@@ -1,5 +1,4 @@
 use Rattle.kt_scope.proofs.Whole.{rise_more}
-use Rattle.std.proofs.Common.{arith}
 use Rattle.kt_scope.proofs.uses.rises.Goals as goal
 
 pub loop-i-preserved : goal.loop-i-preserved
