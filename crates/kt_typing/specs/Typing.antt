@@ -382,9 +382,9 @@ joined_type classes way a b = upper_of classes a b
 
 -- by the types of the last statements of its branches
 abbrev pub joined_claim : Classes → Way → Mark → List (Option KtType) → List (Option KtType) → Claim
-joined_claim classes way n (Some a ∷ as) (Some b ∷ bs) = Gives (joined_type classes way a b)
-joined_claim classes way n (a ∷ as) (b ∷ bs) = Lacks
-joined_claim classes way n as bs = Breaks Syntax n.span
+joined_claim classes way n (Some a ∷ xs) (Some b ∷ ys) = Gives (joined_type classes way a b)
+joined_claim classes way n (a ∷ xs) (b ∷ ys) = Lacks
+joined_claim classes way n xs ys = Breaks Syntax n.span
 
 -- a condition, and the statements of two branches behind it
 abbrev pub branched : Judgement → Judgements → Judgements → Judgements
