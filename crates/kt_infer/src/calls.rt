@@ -7,7 +7,7 @@ ghost use Rattle.kt_model.specs.NameUses.{Resolved, declaration_type, function_p
 ghost use Rattle.kt_typing.specs.Typing as spec;
 ghost use Rattle.kt_infer.specs.Demands.{as_demand, as_signature, as_ways, ways_from};
 
-use crate::choices::{UNIT, is_unit, value_way};
+use crate::choices::{UNIT, value_way};
 use kt_model::finding::Rule;
 use kt_model::kinds::{Head, KtType};
 use kt_model::uses::{Owner, Uses};
@@ -107,32 +107,26 @@ pub fn owner_result(uses: &Uses, owner: Owner) -> Option<KtType>
     }
 }
 
-/// What a call of a function of the file needs, if its result is `Unit`: as many arguments as it has parameters.
-fn unit_signature(uses: &Uses, function: u32) -> Signature
-    ensures { spec.function_signature (declaration_type uses.now) (parameters_at uses.now function) spec.unit ≡ as_signature uses.now result }
+/// What a call of a function of the file with this result needs: as many arguments as it has parameters.
+fn counted_signature(uses: &Uses, function: u32, gives: KtType) -> Signature
+    ensures { spec.function_signature (declaration_type uses.now) (parameters_at uses.now function) gives ≡ as_signature uses.now result }
 {
     let count = uses.parameters(function).len();
     Signature {
         least: count,
         most: count,
         ways: Ways::Parameters(function),
-        result: UNIT,
+        result: gives,
     }
 }
 
-/// What a call of a function of the file needs, where it is open.
+/// What a call of a function of the file needs, where its result is written.
 #[tactic(auto, unfolding(kt_typing::specs::Typing::signature_of))]
 pub fn function_signature(uses: &Uses, function: u32) -> Option<Signature>
     ensures { spec.signature_of uses.now function ≡ option_map (as_signature uses.now) result }
 {
     match function_result(uses, function) {
-        Some(t) => {
-            if is_unit(t) {
-                Some(unit_signature(uses, function))
-            } else {
-                None
-            }
-        }
+        Some(gives) => Some(counted_signature(uses, function, gives)),
         None => None,
     }
 }

@@ -3,9 +3,11 @@
 #![tactic(auto)]
 
 mod bodies;
+mod branches;
 mod calls;
 mod choices;
 mod notes;
+mod operators;
 mod statements;
 mod subtypes;
 mod walk;

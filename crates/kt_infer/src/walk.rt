@@ -4,25 +4,21 @@
 ghost use Rattle.std.specs.Prelude.{◌≡◌, ◌&&◌, is_some, IfOk, List, [], ◌∷◌, map, option_map, true};
 ghost use Rattle.kt_tree.specs.declared.token.Span.{Span};
 ghost use Rattle.kt_model.specs.NameUses.{named_at};
-ghost use Rattle.kt_model.specs.BodyTrees.{Mark, Return', expr_tree, name_tree, call_tree, branch_trees, otherwise, seen, seen_trees, seen_optional, piece, inserted_of, named_there, whole};
+ghost use Rattle.kt_model.specs.BodyTrees.{Mark, expr_tree, name_tree, call_tree, seen, seen_trees, piece, inserted_of, named_there};
 ghost use Rattle.kt_typing.specs.Typing as spec;
 ghost use Rattle.kt_typing.specs.Typing.{Each, judged, all_judged};
 ghost use Rattle.kt_infer.specs.Demands.{as_ways};
-ghost use Rattle.kt_infer.specs.Noting.{IsOpened, Judges, JudgesAll, Opens, OpensAs, by_last, typing_of};
+ghost use Rattle.kt_infer.specs.Noting.{IsOpened, Judges, JudgesAll, Opens, OpensAs, typing_of};
 
-use crate::calls::{Ways, built_in_signature, demanded, function_signature, owner_result};
-use crate::choices::{
-    BOOLEAN, INT, NOTHING, UNIT, apart, arithmetic_operator, bare_return, both, equality_claim,
-    is_valued, left_way, name_claim, right_way, still, value_way,
-};
+use crate::calls::{Ways, built_in_signature, demanded, function_signature};
+use crate::choices::{BOOLEAN, INT, both, is_valued, name_claim, still};
 use crate::notes::{Notes, Opened, opened_tree, shut};
 use kt_model::finding::Rule;
 use kt_model::kinds::KtType;
 use kt_model::uses::{Body, Named};
-use kt_tree::ast::{Branch, Expr, ExprKind, StringPart};
+use kt_tree::ast::{Expr, ExprKind, StringPart};
 use kt_tree::{NoMemory, Span};
 use kt_typing::{Claim, Operator, Way};
-use sqlite_items::Boxed;
 
 /// What an operator makes of its operands, where it is open.
 fn operator_claim(operator: Option<Operator>, span: Span) -> Claim
@@ -71,83 +67,16 @@ impl Notes {
                 lambda,
             } => match lambda {
                 None => {
-                    let call = self.call(
-                        body,
-                        e.number,
-                        e.span,
-                        callee.span,
-                        arguments.as_slice(),
-                    )?;
+                    let word = callee.span;
+                    let call = self.call(body, e.number, e.span, word, arguments.as_slice())?;
                     Ok(call)
                 }
                 Some(_) => Ok(shut(self.alloc, e.number, e.span)),
             },
-            ExprKind::Sign(_, a) => {
-                let found = self.expr(body, Way::Checked(INT), a.get())?;
-                Ok(self.unary(e.number, e.span, found, INT))
+            _ => {
+                let other = self.operation(body, valued, e)?;
+                Ok(other)
             }
-            ExprKind::Sum(a, b) => {
-                let first = self.open(body, true, a.get())?;
-                let operator = first.sum_operator(body.table);
-                let left = self.close(body.table, left_way(operator), &first)?;
-                let right = self.expr(body, right_way(operator), b.get())?;
-                Ok(self.binary(e.number, e.span, operator, left, right))
-            }
-            ExprKind::Arithmetic(o, a, b) => {
-                let operator = arithmetic_operator(*o);
-                let left = self.expr(body, left_way(operator), a.get())?;
-                let right = self.expr(body, right_way(operator), b.get())?;
-                Ok(self.binary(e.number, e.span, operator, left, right))
-            }
-            ExprKind::Compare(_, a, b) => {
-                let left = self.expr(body, Way::Checked(INT), a.get())?;
-                let right = self.expr(body, Way::Checked(INT), b.get())?;
-                Ok(self.pair(e.number, e.span, left, right, Claim::Gives(BOOLEAN)))
-            }
-            ExprKind::Equal(_, a, b) => {
-                let left = self.expr(body, Way::Plain, a.get())?;
-                let right = self.expr(body, Way::Plain, b.get())?;
-                let claim = equality_claim(apart(left, right), e.span);
-                Ok(self.pair(e.number, e.span, left, right, claim))
-            }
-            ExprKind::Not(a) => {
-                let found = self.expr(body, Way::Checked(BOOLEAN), a.get())?;
-                Ok(self.unary(e.number, e.span, found, BOOLEAN))
-            }
-            ExprKind::And(a, b) => {
-                let left = self.expr(body, Way::Checked(BOOLEAN), a.get())?;
-                let right = self.expr(body, Way::Checked(BOOLEAN), b.get())?;
-                Ok(self.pair(e.number, e.span, left, right, Claim::Gives(BOOLEAN)))
-            }
-            ExprKind::Or(a, b) => {
-                let left = self.expr(body, Way::Checked(BOOLEAN), a.get())?;
-                let right = self.expr(body, Way::Checked(BOOLEAN), b.get())?;
-                Ok(self.pair(e.number, e.span, left, right, Claim::Gives(BOOLEAN)))
-            }
-            ExprKind::If {
-                condition,
-                then,
-                otherwise,
-            } => {
-                if valued {
-                    return Ok(shut(self.alloc, e.number, e.span));
-                }
-                let found = self.expr(body, Way::Checked(BOOLEAN), condition.get())?;
-                let first = self.branch(body, then.get())?;
-                let second = self.otherwise(body, otherwise)?;
-                let complete = both(found.is_some(), both(first, second));
-                let claim = Claim::Gives(UNIT);
-                Ok(opened_tree(self.alloc, e.number, e.span, complete, claim))
-            }
-            ExprKind::Return { label, value } => match label {
-                None => {
-                    let leaving = self.leave(body, e.number, e.span, value)?;
-                    Ok(leaving)
-                }
-                Some(_) => Ok(shut(self.alloc, e.number, e.span)),
-            },
-            ExprKind::Throw(_) => Ok(shut(self.alloc, e.number, e.span)),
-            _ => Ok(shut(self.alloc, e.number, e.span)),
         }
     }
 
@@ -159,7 +88,7 @@ impl Notes {
     }
 
     /// Opens a tree with its one part, which has this type.
-    fn unary(&self, number: u32, span: Span, part: Option<KtType>, gives: KtType) -> Opened
+    pub fn unary(&self, number: u32, span: Span, part: Option<KtType>, gives: KtType) -> Opened
         ensures { IsOpened result number span (is_some part) (Claim.Gives gives) }
     {
         opened_tree(
@@ -172,7 +101,7 @@ impl Notes {
     }
 
     /// Opens a tree with its two parts, which have these types.
-    fn pair(
+    pub fn pair(
         &self,
         number: u32,
         span: Span,
@@ -187,7 +116,7 @@ impl Notes {
     }
 
     /// Opens an operator with its two operands, which have these types.
-    fn binary(
+    pub fn binary(
         &self,
         number: u32,
         span: Span,
@@ -286,65 +215,6 @@ impl Notes {
                 let found = self.expr(body, Way::Inferred, e)?;
                 Ok(found.is_some())
             }
-        }
-    }
-
-    /// Opens a `return` of the function under way.
-    #[cycle(typing)]
-    fn leave(
-        &mut self,
-        body: &Body<'_>,
-        number: u32,
-        span: Span,
-        value: &Option<Boxed<Expr>>,
-    ) -> Result<Opened, NoMemory>
-        ensures { IfOk result (Opens (typing_of body.now) self.old self.new (Return' (whole number span) (seen_optional (option_map (seen (named_at body.now.uses.now)) value.now)))) }
-    {
-        let gives = owner_result(body.uses, body.owner);
-        match value {
-            None => {
-                let claim = bare_return(gives, span);
-                Ok(opened_tree(self.alloc, number, span, true, claim))
-            }
-            Some(e) => {
-                let found = self.expr(body, value_way(gives), e.get())?;
-                Ok(self.unary(number, span, found, NOTHING))
-            }
-        }
-    }
-
-    /// Types the statements of a branch; whether the last of them has a type.
-    #[cycle(typing)]
-    fn branch(&mut self, body: &Body<'_>, branch: &Branch) -> Result<bool, NoMemory>
-        ensures { IfOk result (JudgesAll self.old self.new (by_last (all_judged (typing_of body.now) (Each Way.Unvalued) self.old.locals.entries (branch_trees (named_at body.now.uses.now) branch.now)))) }
-    {
-        match branch {
-            Branch::Braced(block) => {
-                let typed = self.statements(body, block.statements.as_slice())?;
-                Ok(typed)
-            }
-            Branch::Single(s) => {
-                let found = self.stmt(body, s)?;
-                Ok(found.is_some())
-            }
-        }
-    }
-
-    /// Types what stands behind `else`, if anything does; whether the last statement has a type.
-    #[cycle(typing)]
-    fn otherwise(
-        &mut self,
-        body: &Body<'_>,
-        branch: &Option<Boxed<Branch>>,
-    ) -> Result<bool, NoMemory>
-        ensures { IfOk result (JudgesAll self.old self.new (by_last (all_judged (typing_of body.now) (Each Way.Unvalued) self.old.locals.entries (otherwise (option_map (branch_trees (named_at body.now.uses.now)) branch.now))))) }
-    {
-        match branch {
-            Some(branch) => {
-                let typed = self.branch(body, branch.get())?;
-                Ok(typed)
-            }
-            None => Ok(true),
         }
     }
 }

@@ -71,32 +71,59 @@ open-returns-in-Some t c =
     every c.args.valued (tree_of_kind uses c.args.e.now _ _ (c.in-Call.is ∙ ap (e.Call c.in-Call.callee c.in-Call.arguments) c.in-Some.is) (kind_call_with uses c.in-Call.callee c.in-Call.arguments _))
     (opens_shut (typing_of c.args.body.now) c.args.self.now (whole c.args.e.now.number c.args.e.now.span) c.shut-in-Some.ensures)
 
-pub open-returns-in-Throw : goal.open-returns-in-Throw
-open-returns-in-Throw t c =
+pub choice-returns-in-Throw : goal.choice-returns-in-Throw
+choice-returns-in-Throw t c h k j =
     let uses = named_at c.args.body.now.uses.now in
     every c.args.valued (tree_of_kind uses c.args.e.now _ _ c.in-Throw.is (kind_throw uses c.in-Throw.field-0)) (opens_throw (typing_of c.args.body.now) c.args.self.now (whole c.args.e.now.number c.args.e.now.span) _ c.shut-in-Throw.ensures)
 
-pub open-returns-in_default : goal.open-returns-in_default
-open-returns-in_default t c =
-    every c.args.valued (tree_of_kind (named_at c.args.body.now.uses.now) c.args.e.now c.args.e.now.kind shut refl (kind_other (named_at c.args.body.now.uses.now) c.args.e.now.kind c.in_default.not-Int c.in_default.not-Bool c.in_default.not-Null c.in_default.not-Name c.in_default.not-Template c.in_default.not-Paren c.in_default.not-Call c.in_default.not-Sign c.in_default.not-Not c.in_default.not-Sum c.in_default.not-Arithmetic c.in_default.not-Compare c.in_default.not-Equal c.in_default.not-And c.in_default.not-Or c.in_default.not-If c.in_default.not-Return c.in_default.not-Throw))
+pub open-returns-in_ok-other-in_default : goal.open-returns-in_ok-other-in_default
+open-returns-in_ok-other-in_default t c =
+    c.in_ok-other-in_default.ensures (record {
+      no_int = c.in_default.not-Int;
+      no_bool = c.in_default.not-Bool;
+      no_null = c.in_default.not-Null;
+      no_name = c.in_default.not-Name;
+      no_template = c.in_default.not-Template;
+      no_paren = c.in_default.not-Paren;
+      no_call = c.in_default.not-Call;
+    })
+
+pub operation-returns-in_ok-other-in_default : goal.operation-returns-in_ok-other-in_default
+operation-returns-in_ok-other-in_default t c h =
+    c.in_ok-other-in_default.ensures h (record {
+      no_sign = c.in_default.not-Sign;
+      no_sum = c.in_default.not-Sum;
+      no_arithmetic = c.in_default.not-Arithmetic;
+      no_compare = c.in_default.not-Compare;
+      no_equal = c.in_default.not-Equal;
+    })
+
+pub logic-returns-in_ok-other-in_default : goal.logic-returns-in_ok-other-in_default
+logic-returns-in_ok-other-in_default t c h k =
+    c.in_ok-other-in_default.ensures h k (record { no_not = c.in_default.not-Not; no_and = c.in_default.not-And; no_or = c.in_default.not-Or })
+
+pub choice-returns-in_default : goal.choice-returns-in_default
+choice-returns-in_default t c h k j =
+    let uses = named_at c.args.body.now.uses.now in
+    every c.args.valued (tree_of_kind uses c.args.e.now c.args.e.now.kind shut refl (kind_other uses c.args.e.now.kind h.no_int h.no_bool h.no_null h.no_name h.no_template h.no_paren h.no_call k.no_sign j.no_not k.no_sum k.no_arithmetic k.no_compare k.no_equal j.no_and j.no_or c.in_default.not-If c.in_default.not-Return c.in_default.not-Throw))
     (opens_shut (typing_of c.args.body.now) c.args.self.now (whole c.args.e.now.number c.args.e.now.span) c.shut-in_default.ensures)
 
-pub open-returns-in_ok-found-in-Sign : goal.open-returns-in_ok-found-in-Sign
-open-returns-in_ok-found-in-Sign t c =
+pub operation-returns-in_ok-found-in-Sign : goal.operation-returns-in_ok-found-in-Sign
+operation-returns-in_ok-found-in-Sign t c h =
     let uses = named_at c.args.body.now.uses.now in
     let n = whole c.args.e.now.number c.args.e.now.span in
     every c.args.valued (tree_of_kind uses c.args.e.now _ _ c.in-Sign.is (kind_sign uses c.in-Sign.field-0 c.in-Sign.a))
-    (opens_sign (typing_of c.args.body.now) n c.in-Sign.field-0 (expr_tree uses c.in-Sign.a) (judges_of (typing_of c.args.body.now) uses (Checked int) c.get-in-Sign.ensures c.in_ok-found-in-Sign.ensures) c.unary.ensures)
+    (opens_sign (typing_of c.args.body.now) n c.in-Sign.field-0 (expr_tree uses c.in-Sign.a) (judges_of (typing_of c.args.body.now) uses (Checked int) c.get.ensures c.in_ok-found-in-Sign.ensures) c.unary.ensures)
 
-pub open-returns-in_ok-found-in-Not : goal.open-returns-in_ok-found-in-Not
-open-returns-in_ok-found-in-Not t c =
+pub logic-returns-in_ok-found-in-Not : goal.logic-returns-in_ok-found-in-Not
+logic-returns-in_ok-found-in-Not t c h k =
     let uses = named_at c.args.body.now.uses.now in
     let n = whole c.args.e.now.number c.args.e.now.span in
     every c.args.valued (tree_of_kind uses c.args.e.now _ _ c.in-Not.is (kind_not uses c.in-Not.a))
-    (opens_not (typing_of c.args.body.now) n (expr_tree uses c.in-Not.a) (judges_of (typing_of c.args.body.now) uses (Checked boolean) c.get-in-Not.ensures c.in_ok-found-in-Not.ensures) c.unary-in-Not.ensures)
+    (opens_not (typing_of c.args.body.now) n (expr_tree uses c.in-Not.a) (judges_of (typing_of c.args.body.now) uses (Checked boolean) c.get.ensures c.in_ok-found-in-Not.ensures) c.unary.ensures)
 
-pub open-returns-in_ok-right-in-Compare : goal.open-returns-in_ok-right-in-Compare
-open-returns-in_ok-right-in-Compare t c =
+pub operation-returns-in_ok-right-in-Compare : goal.operation-returns-in_ok-right-in-Compare
+operation-returns-in_ok-right-in-Compare t c h =
     let uses = named_at c.args.body.now.uses.now in
     let n = whole c.args.e.now.number c.args.e.now.span in
     every c.args.valued (tree_of_kind uses c.args.e.now _ _ c.in-Compare.is (kind_compare uses c.in-Compare.field-0 c.in-Compare.a c.in-Compare.b))
@@ -105,8 +132,8 @@ open-returns-in_ok-right-in-Compare t c =
     (judges_of (typing_of c.args.body.now) uses (Checked int) c.get-in-Compare-2.ensures c.in_ok-right-in-Compare.ensures)
     c.pair.ensures)
 
-pub open-returns-in_ok-right-in-Equal : goal.open-returns-in_ok-right-in-Equal
-open-returns-in_ok-right-in-Equal t c =
+pub operation-returns-in_ok-right-in-Equal : goal.operation-returns-in_ok-right-in-Equal
+operation-returns-in_ok-right-in-Equal t c h =
     let uses = named_at c.args.body.now.uses.now in
     let n = whole c.args.e.now.number c.args.e.now.span in
     every c.args.valued (tree_of_kind uses c.args.e.now _ _ c.in-Equal.is (kind_equal uses c.in-Equal.field-0 c.in-Equal.a c.in-Equal.b))
@@ -115,18 +142,18 @@ open-returns-in_ok-right-in-Equal t c =
     (judges_of (typing_of c.args.body.now) uses (Plain) c.get-in-Equal-2.ensures c.in_ok-right-in-Equal.ensures)
     (c.equality_claim-claim.ensures n refl ∙ ap (λ far. (equality_demand far (demand_if true n (Each Plain) boolean) n).claim) c.apart.ensures) c.pair-in-Equal.ensures)
 
-pub open-returns-in_ok-right-in-And : goal.open-returns-in_ok-right-in-And
-open-returns-in_ok-right-in-And t c =
+pub logic-returns-in_ok-right-in-And : goal.logic-returns-in_ok-right-in-And
+logic-returns-in_ok-right-in-And t c h k =
     let uses = named_at c.args.body.now.uses.now in
     let n = whole c.args.e.now.number c.args.e.now.span in
     every c.args.valued (tree_of_kind uses c.args.e.now _ _ c.in-And.is (kind_and uses c.in-And.a c.in-And.b))
     (opens_and (typing_of c.args.body.now) n (expr_tree uses c.in-And.a) (expr_tree uses c.in-And.b)
     (judges_of (typing_of c.args.body.now) uses (Checked boolean) c.get-in-And.ensures c.in_ok-left-in-And.ensures)
     (judges_of (typing_of c.args.body.now) uses (Checked boolean) c.get-in-And-2.ensures c.in_ok-right-in-And.ensures)
-    c.pair-in-And.ensures)
+    c.pair.ensures)
 
-pub open-returns-in_ok-right-in-Or : goal.open-returns-in_ok-right-in-Or
-open-returns-in_ok-right-in-Or t c =
+pub logic-returns-in_ok-right-in-Or : goal.logic-returns-in_ok-right-in-Or
+logic-returns-in_ok-right-in-Or t c h k =
     let uses = named_at c.args.body.now.uses.now in
     let n = whole c.args.e.now.number c.args.e.now.span in
     every c.args.valued (tree_of_kind uses c.args.e.now _ _ c.in-Or.is (kind_or uses c.in-Or.a c.in-Or.b))
@@ -135,8 +162,8 @@ open-returns-in_ok-right-in-Or t c =
     (judges_of (typing_of c.args.body.now) uses (Checked boolean) c.get-in-Or-2.ensures c.in_ok-right-in-Or.ensures)
     c.pair-in-Or.ensures)
 
-pub open-returns-in_ok-right-in-Sum : goal.open-returns-in_ok-right-in-Sum
-open-returns-in_ok-right-in-Sum t c =
+pub operation-returns-in_ok-right-in-Sum : goal.operation-returns-in_ok-right-in-Sum
+operation-returns-in_ok-right-in-Sum t c h =
     let uses = named_at c.args.body.now.uses.now in
     let n = whole c.args.e.now.number c.args.e.now.span in
     every c.args.valued (tree_of_kind uses c.args.e.now _ _ c.in-Sum.is (kind_sum uses c.in-Sum.a c.in-Sum.b))
@@ -146,8 +173,8 @@ open-returns-in_ok-right-in-Sum t c =
     (judges_in (typing_of c.args.body.now) (expr_tree uses c.in-Sum.b) (right_way c.sum_operator-operator.result) c.right_way.ensures (judges_of (typing_of c.args.body.now) uses _ c.get-in-Sum-2.ensures c.in_ok-right-in-Sum.ensures))
     (c.binary.ensures n refl refl))
 
-pub open-returns-in_ok-right-in-Arithmetic : goal.open-returns-in_ok-right-in-Arithmetic
-open-returns-in_ok-right-in-Arithmetic t c =
+pub operation-returns-in_ok-right-in-Arithmetic : goal.operation-returns-in_ok-right-in-Arithmetic
+operation-returns-in_ok-right-in-Arithmetic t c h =
     let uses = named_at c.args.body.now.uses.now in
     let n = whole c.args.e.now.number c.args.e.now.span in
     every c.args.valued (tree_of_kind uses c.args.e.now _ _ c.in-Arithmetic.is (kind_arithmetic uses c.in-Arithmetic.o c.in-Arithmetic.a c.in-Arithmetic.b))
@@ -157,32 +184,32 @@ open-returns-in_ok-right-in-Arithmetic t c =
     (judges_in (typing_of c.args.body.now) (expr_tree uses c.in-Arithmetic.b) (right_way c.arithmetic_operator-operator.result) c.right_way-in-Arithmetic.ensures (judges_of (typing_of c.args.body.now) uses _ c.get-in-Arithmetic-2.ensures c.in_ok-right-in-Arithmetic.ensures))
     (c.binary-in-Arithmetic.ensures n refl refl))
 
-pub open-returns-then-valued : goal.open-returns-then-valued
-open-returns-then-valued t c =
+pub choice-returns-then-valued : goal.choice-returns-then-valued
+choice-returns-then-valued t c h k j =
     let uses = named_at c.args.body.now.uses.now in
     same_such (tree_of_kind uses c.args.e.now _ _ c.in-If.is (kind_if_any uses c.in-If.condition c.in-If.then c.in-If.otherwise))
-    (refuses_if (typing_of c.args.body.now) c.args.self.now (whole c.args.e.now.number c.args.e.now.span) _ _ _ c.if-valued.true c.shut-then-valued.ensures)
+    (refuses_if (typing_of c.args.body.now) c.args.self.now (whole c.args.e.now.number c.args.e.now.span) _ _ _ c.if-valued.true c.shut.ensures)
 
-pub open-returns-in_ok-second-in-If : goal.open-returns-in_ok-second-in-If
-open-returns-in_ok-second-in-If t c =
+pub choice-returns-in_ok-second-in-If : goal.choice-returns-in_ok-second-in-If
+choice-returns-in_ok-second-in-If t c h k j =
     let uses = named_at c.args.body.now.uses.now in
     same_such (tree_of_kind uses c.args.e.now _ _ c.in-If.is (kind_if_any uses c.in-If.condition c.in-If.then c.in-If.otherwise))
     (opens_if (typing_of c.args.body.now) (whole c.args.e.now.number c.args.e.now.span) (expr_tree uses c.in-If.condition) (branch_trees uses c.in-If.then) (otherwise (option_map (branch_trees uses) c.in-If.otherwise)) c.if-valued.false
-    (judges_of (typing_of c.args.body.now) uses (Checked boolean) c.get-in-If.ensures c.in_ok-found-in-If.ensures)
-    (same_judgements (ap (λ b. by_last (all_judged (typing_of c.args.body.now) (Each Unvalued) c.expr-in-If.new.self.locals.entries (branch_trees uses b))) (sym c.get-in-If-2.ensures)) c.in_ok-first-in-If.ensures)
+    (judges_of (typing_of c.args.body.now) uses (Checked boolean) c.get.ensures c.in_ok-found-in-If.ensures)
+    (same_judgements (ap (λ b. by_last (all_judged (typing_of c.args.body.now) (Each Unvalued) c.expr.new.self.locals.entries (branch_trees uses b))) (sym c.get-in-If.ensures)) c.in_ok-first-in-If.ensures)
     c.in_ok-second-in-If.ensures
-    (opened_if (c.both-complete.ensures ∙ ap (λ k. k && c.both.result) c.is_some.ensures ∙ ap (λ k. is_some c.in_ok-found-in-If.found && k) c.both.ensures) c.opened_tree-in-If.ensures))
+    (opened_if (c.both-complete.ensures ∙ ap (λ k. k && c.both.result) c.is_some.ensures ∙ ap (λ k. is_some c.in_ok-found-in-If.found && k) c.both.ensures) c.opened_tree.ensures))
 
-pub open-returns-in_ok-leaving-in-None-label : goal.open-returns-in_ok-leaving-in-None-label
-open-returns-in_ok-leaving-in-None-label t c =
+pub choice-returns-in_ok-leaving-in-None : goal.choice-returns-in_ok-leaving-in-None
+choice-returns-in_ok-leaving-in-None t c h k j =
     let uses = named_at c.args.body.now.uses.now in
-    every c.args.valued (tree_of_kind uses c.args.e.now _ _ (c.in-Return.is ∙ ap (λ l. e.Return l c.in-Return.value) c.in-None-label.is) (kind_return_any uses c.in-Return.value)) c.in_ok-leaving-in-None-label.ensures
+    every c.args.valued (tree_of_kind uses c.args.e.now _ _ (c.in-Return.is ∙ ap (λ l. e.Return l c.in-Return.value) c.in-None.is) (kind_return_any uses c.in-Return.value)) c.in_ok-leaving-in-None.ensures
 
-pub open-returns-in-Some-label : goal.open-returns-in-Some-label
-open-returns-in-Some-label t c =
+pub choice-returns-in-Some : goal.choice-returns-in-Some
+choice-returns-in-Some t c h k j =
     let uses = named_at c.args.body.now.uses.now in
-    every c.args.valued (tree_of_kind uses c.args.e.now _ _ (c.in-Return.is ∙ ap (λ l. e.Return l c.in-Return.value) c.in-Some-label.is) (kind_return_at_any uses _ c.in-Return.value))
-    (opens_shut (typing_of c.args.body.now) c.args.self.now (whole c.args.e.now.number c.args.e.now.span) c.shut-in-Some-label.ensures)
+    every c.args.valued (tree_of_kind uses c.args.e.now _ _ (c.in-Return.is ∙ ap (λ l. e.Return l c.in-Return.value) c.in-Some.is) (kind_return_at_any uses _ c.in-Return.value))
+    (opens_shut (typing_of c.args.body.now) c.args.self.now (whole c.args.e.now.number c.args.e.now.span) c.shut-in-Some.ensures)
 
 pub call-returns-in_ok-complete-in-Function : goal.call-returns-in_ok-complete-in-Function
 call-returns-in_ok-complete-in-Function t c =
