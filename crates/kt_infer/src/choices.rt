@@ -157,10 +157,10 @@ pub fn arithmetic_operator(operator: Arithmetic) -> Option<Operator>
     ensures { (text : Bool) → spec.operator_of (body.Arithmetic' operator) text ≡ result }
 {
     match operator {
-        Arithmetic::Subtract => Some(sum_operator(false)),
-        Arithmetic::Multiply => Some(sum_operator(false)),
-        Arithmetic::Divide => None,
-        Arithmetic::Remainder => None,
+        Arithmetic::Subtract
+        | Arithmetic::Multiply
+        | Arithmetic::Divide
+        | Arithmetic::Remainder => Some(sum_operator(false)),
     }
 }
 
