@@ -12,3 +12,5 @@ pub mod Rising
 pub mod Strays
 pub mod Ordered
 pub mod AtNode
+pub mod Followed
+pub mod Ended

@@ -1,25 +1,29 @@
 -- Notes whose trees' numbers rise from above 0, and what the analysis of the graph of such a body finds.
-use Rattle.std.proofs.Common.{◌≡◌, ℕ, suc, ◌+◌, ◌<◌, ◌≤◌, ◌↔◌, false, List, [], ◌∷◌, map, length, get_or, IsTrue, refl, ap, subst, ◌∙◌, arith}
+use Rattle.std.proofs.Common.{◌≡◌, ℕ, suc, ◌+◌, ◌<◌, ◌≤◌, ◌↔◌, false, List, [], ◌∷◌, map, length, get_or, IsTrue, inl, inr, refl, ap, subst, ◌∙◌, arith}
 use Rattle.std.specs.Prelude.{Result, Ok, Err, IfOk}
 use Rattle.std.specs.List.{All}
 use Rattle.std.specs.List.Sorted.{IsStrictlyIncreasing}
 use Rattle.std.proofs.lemmas.Bool.{false≢true}
 use Rattle.std.proofs.lemmas.List.{get_or-map, length-map}
+use Rattle.kt_tree.specs.declared.ast.declaration.File.{File}
 use Rattle.kt_model.specs.BodyTrees.{Tree, Trees, number}
-use Rattle.kt_model.specs.Bodies.{IsGraphOf}
+use Rattle.kt_model.specs.Bodies.{IsGraphOf, owner_parameters, owner_trees}
 use Rattle.kt_model.specs.Findings.{AreFindings}
-use Rattle.kt_paths.specs.FlowRules.{IsFlowViolated, SettlesEntered}
+use Rattle.kt_paths.specs.FlowRules.{IsPathViolated, SettlesEntered}
+use Rattle.kt_model.specs.NameUses.{Resolved}
 use Rattle.kt_model.specs.NodePaths.{IsEdgeWithin}
 use Rattle.kt_model.specs.TreesWithin.{all_trees_in}
 use Rattle.kt_model.specs.declared.finding.Finding.{Finding}
 use Rattle.kt_model.specs.declared.graph.Graph.{Graph}
+use Rattle.kt_model.specs.declared.uses.Owner.{Owner}
 use Rattle.kt_init.specs.Statuses.{Statuses, Analyses}
 use Rattle.kt_flow.specs.declared.notes.TreeNote.{TreeNote}
 use Rattle.kt_flow.specs.Notes.{note, trees_notes, AreRising, RiseFromZero}
-use Rattle.kt_flow.specs.Against.{IsAgainstBefore}
+use Rattle.kt_flow.specs.Ends.{IsAgainstBody}
 use Rattle.kt_flow.proofs.Adding.{same_findings}
 use Rattle.kt_flow.proofs.Violated.{along_there, along_here}
 use Rattle.kt_flow.proofs.Paths.{IsPlaced, placed_graph}
+use Rattle.kt_flow.proofs.Ended.{end_violated, end_against}
 use Rattle.kt_flow.proofs.Entered.{settles}
 use Rattle.kt_flow.proofs.Rising.{rising_numbered}
 
@@ -52,22 +56,36 @@ unfolding note
 same_numbers [] = refl
 same_numbers (t ∷ ts) = ap (λ l. number t ∷ l) (same_numbers ts)
 
-module _ (ps : List ℕ) (ts : Trees) (classes : ℕ) (g : Graph) (notes : List TreeNote) (noted : notes ≡ trees_notes ts) (up : RiseFromZero notes) (is : IsGraphOf ps ts classes g) (within : All (IsEdgeWithin (length g.nodes)) g.edges) where
+module _ (file : File) (uses : Resolved) (o : Owner) (classes : ℕ) (g : Graph) (notes : List TreeNote) (noted : notes ≡ trees_notes (owner_trees file uses o)) (up : RiseFromZero notes)
+    (is : IsGraphOf (owner_parameters uses o) (owner_trees file uses o) classes g) (within : All (IsEdgeWithin (length g.nodes)) g.edges) where
+  abbrev ps : List ℕ
+  ps = owner_parameters uses o
+
+  abbrev ts : Trees
+  ts = owner_trees file uses o
+
   placed : IsPlaced ps ts classes g
   placed = placed_graph ps ts classes g (rising_numbered ts (subst IsStrictlyIncreasing (ap (λ l. 0 ∷ map (λ n. n.tree) l) noted ∙ ap (λ l. 0 ∷ l) (same_numbers (all_trees_in ts))) up)) is within
 
   -- what is found by places is what is violated along the paths of the body
-  pub found_in_body : (found : List Finding) → AreFindings (IsAgainstBefore notes g (length g.nodes)) found → AreFindings (IsFlowViolated ps ts) found
+  pub found_in_body : (found : List Finding) → AreFindings (IsAgainstBody file uses o notes g) found → AreFindings (IsPathViolated file uses o) found
   found_in_body found are =
-      same_findings (IsAgainstBefore (trees_notes ts) g (length g.nodes)) (IsFlowViolated ps ts) found (along_there ps ts classes g placed) (along_here ps ts classes g placed)
-      (subst (λ l. AreFindings (IsAgainstBefore l g (length g.nodes)) found) noted are)
+      same_findings (IsAgainstBody file uses o (trees_notes ts) g) (IsPathViolated file uses o) found to from (subst (λ l. AreFindings (IsAgainstBody file uses o l g) found) noted are)
+    where
+      to : (f : Finding) → IsAgainstBody file uses o (trees_notes ts) g f → IsPathViolated file uses o f
+      to f (inl h) = inl (along_there ps ts classes g placed f h)
+      to f (inr h) = inr (end_violated file uses classes g o f placed h)
+
+      from : (f : Finding) → IsPathViolated file uses o f → IsAgainstBody file uses o (trees_notes ts) g f
+      from f (inl h) = inl (along_here ps ts classes g placed f h)
+      from f (inr h) = inr (end_against file uses classes g o f placed h)
 
   -- and it is settled which trees are entered
   pub settled_in_body : (s : Statuses) → Analyses g s → SettlesEntered ps ts
   settled_in_body s a = settles ps ts classes g s placed a
 
   -- the same of calls that may fail
-  pub found_on : {E : Type 0} (r : Result (List Finding) E) → IfOk r (AreFindings (IsAgainstBefore notes g (length g.nodes))) → IfOk r (AreFindings (IsFlowViolated ps ts))
+  pub found_on : {E : Type 0} (r : Result (List Finding) E) → IfOk r (AreFindings (IsAgainstBody file uses o notes g)) → IfOk r (AreFindings (IsPathViolated file uses o))
   found_on (Ok found) h = found_in_body found h
   found_on (Err x) h = tt
 

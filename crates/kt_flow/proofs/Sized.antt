@@ -18,7 +18,7 @@ use Rattle.kt_flow.specs.Sizes.{finding_if, owner_locals, owner_nodes, IsPassed,
 use Rattle.kt_flow.proofs.Adding.{adds_none, adds_push, adds_same, adds_both}
 
 -- what is added where a rule holds
-adds_if : (b : Bool) (rule : Rule) (at : Span) (P : Type 0) (old new : List Finding) → IsTrue b ↔ P → new ≡ old ++ finding_if b rule at → Adds (λ f. P × (record { rule = rule; span = at } ≡ f)) old new
+pub adds_if : (b : Bool) (rule : Rule) (at : Span) (P : Type 0) (old new : List Finding) → IsTrue b ↔ P → new ≡ old ++ finding_if b rule at → Adds (λ f. P × (record { rule = rule; span = at } ≡ f)) old new
 adds_if true rule at P old new is e = adds_push _ old new (record { rule = rule; span = at }) e (is.0 refl, refl) (λ f h. h.1)
 adds_if false rule at P old new is e =
     subst (λ l. Adds (λ f. P × (record { rule = rule; span = at } ≡ f)) old l) (sym (e ∙ append-nil old)) (adds_none _ old (λ f h. false≢true (is.1 h.0)))

@@ -18,7 +18,7 @@ use kt_model::graph::{FlowEffect, Graph, Variable};
 use kt_tree::NoMemory;
 
 /// What has been found so far.
-type Found = Vec<Finding>;
+pub(crate) type Found = Vec<Finding>;
 
 /// Whether a status says that its variable is assigned along every path, or along none.
 fn keeps(status: Status, assigned: bool) -> bool

@@ -46,7 +46,12 @@ fn has_many_locals(alloc: Global, body: &Body<'_>) -> Result<bool, NoMemory>
 }
 
 /// Adds the finding of a rule, where it holds.
-fn add_if(holds: bool, rule: Rule, span: Span, found: &mut Vec<Finding>) -> Result<(), NoMemory>
+pub(crate) fn add_if(
+    holds: bool,
+    rule: Rule,
+    span: Span,
+    found: &mut Vec<Finding>,
+) -> Result<(), NoMemory>
     ensures { OnOk result (found.new.items ≡ found.old.items ++ finding_if holds rule span) }
 {
     if holds {

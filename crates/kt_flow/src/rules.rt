@@ -1,12 +1,12 @@
 //! The rules along the paths of a body.
-ghost use Rattle.std.specs.Prelude.{◌≡◌, ◌↔◌, [], length, IfOk, IsTrue};
+ghost use Rattle.std.specs.Prelude.{◌↔◌, length, IfOk, IsTrue};
 ghost use Rattle.kt_model.specs.Bodies.{owner_parameters, owner_trees, IsTooLarge};
 ghost use Rattle.kt_model.specs.ControlFlow.{body_nodes};
 ghost use Rattle.kt_model.specs.Findings.{AreFindings};
 ghost use Rattle.kt_paths.specs.FlowRules.{IsPathViolated, SettlesEntered};
 ghost use Rattle.kt_init.specs.Statuses.{Analyses};
 ghost use Rattle.kt_flow.specs.Notes.{RiseFromZero, AreRising};
-ghost use Rattle.kt_flow.specs.Against.{IsAgainstBefore};
+ghost use Rattle.kt_flow.specs.Ends.{IsAgainstBody};
 
 use crate::along::Paths;
 use crate::notes::TreeNote;
@@ -33,16 +33,18 @@ fn are_numbered(notes: &[TreeNote]) -> bool
     true
 }
 
-/// What is violated along the paths of a graph, by the notes of its trees and the statuses there, in the order of findings, none twice.
+/// What is violated along the paths of a body, by its graph, the notes of its trees and the statuses there, in the order of
+/// findings, none twice.
 fn found_in_order(
     alloc: Global,
+    body: &Body<'_>,
     notes: &[TreeNote],
     graph: &Graph,
     init: &Init,
 ) -> Result<Findings, NoMemory>
     requires rising { AreRising notes.now }
     requires analysed { Analyses graph.now init.now }
-    ensures { IfOk result (AreFindings (IsAgainstBefore notes.now graph.now (length graph.now.nodes))) }
+    ensures { IfOk result (AreFindings (IsAgainstBody body.now.file.now body.now.uses.now body.now.owner notes.now graph.now)) }
 {
     let Ok(end) = u32::try_from(graph.nodes.len()) else {
         return Err(NoMemory);
@@ -50,14 +52,17 @@ fn found_in_order(
     let paths = Paths { notes, graph, init };
     let mut found = Vec::new(alloc);
     paths.add_nodes(end, &mut found)?;
+    paths.add_end(body, end, &mut found)?;
     Ok(in_order(found))
 }
 
 /// What is violated along the paths of a body whose graph is not too large: exactly the reads of a local that is not assigned
-/// along every path to there (UNASSIGNED), and the assignments of a `val` or a parameter that is not unassigned along every path
-/// to there (VAL_TWICE), at nodes that are reached, sorted by start, end and code, none twice. So it is also settled which trees
-/// of the body are entered. `NoMemory` where there is none for it; so too for a body the numbers of whose trees do not rise from
-/// above 0, or that names a local of another body: no file that was read and resolved has one.
+/// along every path to there (UNASSIGNED) and the assignments of a `val` or a parameter that is not unassigned along every path
+/// to there (VAL_TWICE), at nodes that are reached (Kotlin specification, "Variable initialization analysis"), and the end of the
+/// block of a function whose result is not `Unit`, where a path leads to it (NO_RETURN, at the function's name; "Function
+/// declaration"); sorted by start, end and code, none twice. So it is also settled which trees of the body are entered.
+/// `NoMemory` where there is none for it; so too for a body the numbers of whose trees do not rise from above 0, or that names a
+/// local of another body: no file that was read and resolved has one.
 pub fn flow(alloc: Global, body: &Body<'_>) -> Result<Findings, NoMemory>
     requires { IsTooLarge (length (body_nodes (owner_parameters body.now.uses.now body.now.owner) (owner_trees body.now.file.now body.now.uses.now body.now.owner))) 0 (length body.now.table.now) → ⊥ }
     ensures findings { IfOk result (AreFindings (IsPathViolated body.now.file.now body.now.uses.now body.now.owner)) }
@@ -74,5 +79,5 @@ pub fn flow(alloc: Global, body: &Body<'_>) -> Result<Findings, NoMemory>
         return Err(NoMemory);
     }
     let init = analyse(alloc, &graph)?;
-    found_in_order(alloc, notes.as_slice(), &graph, &init)
+    found_in_order(alloc, body, notes.as_slice(), &graph, &init)
 }

@@ -1,5 +1,4 @@
 use Rattle.std.proofs.Common.{length, sym, subst, ◌∙◌}
-use Rattle.kt_model.specs.Bodies.{owner_trees, owner_parameters}
 use Rattle.kt_flow.specs.Notes.{AreRising, RiseFromZero}
 use Rattle.kt_flow.proofs.Ordered.{rest_rises, found_on, settled_on}
 use Rattle.kt_flow.proofs.rules.flow.Goals as goal
@@ -11,11 +10,11 @@ found_in_order-requires-clause-rising c =
 pub returns-clause-findings : goal.returns-clause-findings
 returns-clause-findings c =
     let body = c.args.body.now in
-    found_on (owner_parameters body.uses.now body.owner) (owner_trees body.file.now body.uses.now body.owner) (length body.table.now) c.in-Ok.graph c.as_slice-2.result.now (c.as_slice-2.ensures.value ∙ c.in_ok-notes.ensures)
+    found_on body.file.now body.uses.now body.owner (length body.table.now) c.in-Ok.graph c.as_slice-2.result.now (c.as_slice-2.ensures.value ∙ c.in_ok-notes.ensures)
     (subst RiseFromZero (c.as_slice.ensures.value ∙ sym c.as_slice-2.ensures.value) (c.are_numbered.ensures.0 c.if-not-are_numbered.false)) c.in-Ok.ensures.graph c.in-Ok.ensures.within c.found_in_order.result c.found_in_order.ensures
 
 pub returns-clause-entered : goal.returns-clause-entered
 returns-clause-entered c =
     let body = c.args.body.now in
-    settled_on (owner_parameters body.uses.now body.owner) (owner_trees body.file.now body.uses.now body.owner) (length body.table.now) c.in-Ok.graph c.as_slice-2.result.now (c.as_slice-2.ensures.value ∙ c.in_ok-notes.ensures)
+    settled_on body.file.now body.uses.now body.owner (length body.table.now) c.in-Ok.graph c.as_slice-2.result.now (c.as_slice-2.ensures.value ∙ c.in_ok-notes.ensures)
     (subst RiseFromZero (c.as_slice.ensures.value ∙ sym c.as_slice-2.ensures.value) (c.are_numbered.ensures.0 c.if-not-are_numbered.false)) c.in-Ok.ensures.graph c.in-Ok.ensures.within c.found_in_order.result c.in_ok-init.init c.in_ok-init.ensures
