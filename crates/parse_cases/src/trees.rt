@@ -22,56 +22,6 @@ pub fn expr(tree: &Expr, out: &mut Writer) -> Written {
 #[cycle(trees)]
 fn parts(kind: &ExprKind, out: &mut Writer) -> Written {
     match kind {
-        ExprKind::Int(_) => Ok(()),
-        ExprKind::Bool(_) => Ok(()),
-        ExprKind::Null => Ok(()),
-        ExprKind::This => Ok(()),
-        ExprKind::Name(_) => Ok(()),
-        ExprKind::Break => Ok(()),
-        ExprKind::Continue => Ok(()),
-        ExprKind::Template(pieces) => string_parts(pieces.as_slice(), out),
-        ExprKind::Paren(inner) => expr(inner.get(), out),
-        ExprKind::NotNull(inner) => expr(inner.get(), out),
-        ExprKind::Sign(_, inner) => expr(inner.get(), out),
-        ExprKind::Not(inner) => expr(inner.get(), out),
-        ExprKind::Throw(inner) => expr(inner.get(), out),
-        ExprKind::As(inner, _) => expr(inner.get(), out),
-        ExprKind::AsSafe(inner, _) => expr(inner.get(), out),
-        ExprKind::Is(inner, _) => expr(inner.get(), out),
-        ExprKind::IsNot(inner, _) => expr(inner.get(), out),
-        ExprKind::Member { receiver, .. } => expr(receiver.get(), out),
-        ExprKind::Return { value, .. } => match value {
-            Some(value) => expr(value.get(), out),
-            None => Ok(()),
-        },
-        ExprKind::Sum(left, right) => {
-            expr(left.get(), out)?;
-            expr(right.get(), out)
-        }
-        ExprKind::Arithmetic(_, left, right) => {
-            expr(left.get(), out)?;
-            expr(right.get(), out)
-        }
-        ExprKind::Compare(_, left, right) => {
-            expr(left.get(), out)?;
-            expr(right.get(), out)
-        }
-        ExprKind::Equal(_, left, right) => {
-            expr(left.get(), out)?;
-            expr(right.get(), out)
-        }
-        ExprKind::And(left, right) => {
-            expr(left.get(), out)?;
-            expr(right.get(), out)
-        }
-        ExprKind::Or(left, right) => {
-            expr(left.get(), out)?;
-            expr(right.get(), out)
-        }
-        ExprKind::Elvis(left, right) => {
-            expr(left.get(), out)?;
-            expr(right.get(), out)
-        }
         ExprKind::Call {
             arguments,
             lambda: behind,
@@ -82,14 +32,6 @@ fn parts(kind: &ExprKind, out: &mut Writer) -> Written {
                 Some(behind) => lambda(behind.get(), out),
                 None => Ok(()),
             }
-        }
-        ExprKind::MemberCall {
-            receiver,
-            arguments,
-            ..
-        } => {
-            expr(receiver.get(), out)?;
-            exprs(arguments.as_slice(), out)
         }
         ExprKind::If {
             condition,
@@ -121,6 +63,50 @@ fn parts(kind: &ExprKind, out: &mut Writer) -> Written {
             catches(caught.as_slice(), out)?;
             held_finally(finally, out)
         }
+        _ => operands(kind, out),
+    }
+}
+
+/// Writes the parts of an expression that is no call of a name, `if`, `when` or `try`.
+#[cycle(trees)]
+fn operands(kind: &ExprKind, out: &mut Writer) -> Written {
+    match kind {
+        ExprKind::Template(pieces) => string_parts(pieces.as_slice(), out),
+        ExprKind::Paren(inner)
+        | ExprKind::NotNull(inner)
+        | ExprKind::Sign(_, inner)
+        | ExprKind::Not(inner)
+        | ExprKind::Throw(inner)
+        | ExprKind::As(inner, _)
+        | ExprKind::AsSafe(inner, _)
+        | ExprKind::Is(inner, _)
+        | ExprKind::IsNot(inner, _)
+        | ExprKind::Member {
+            receiver: inner, ..
+        } => expr(inner.get(), out),
+        ExprKind::Return { value, .. } => match value {
+            Some(value) => expr(value.get(), out),
+            None => Ok(()),
+        },
+        ExprKind::Sum(left, right)
+        | ExprKind::Arithmetic(_, left, right)
+        | ExprKind::Compare(_, left, right)
+        | ExprKind::Equal(_, left, right)
+        | ExprKind::And(left, right)
+        | ExprKind::Or(left, right)
+        | ExprKind::Elvis(left, right) => {
+            expr(left.get(), out)?;
+            expr(right.get(), out)
+        }
+        ExprKind::MemberCall {
+            receiver,
+            arguments,
+            ..
+        } => {
+            expr(receiver.get(), out)?;
+            exprs(arguments.as_slice(), out)
+        }
+        _ => Ok(()),
     }
 }
 
