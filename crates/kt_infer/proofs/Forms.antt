@@ -22,10 +22,11 @@ use Rattle.kt_typing.specs.declared.claims.Way.{Way}
 use Rattle.kt_typing.specs.declared.claims.Way.TheVariants.{Unvalued, Plain, Inferred, Checked}
 use Rattle.kt_typing.specs.declared.claims.Claim.{Claim}
 use Rattle.kt_typing.specs.declared.claims.Claim.TheVariants.{Gives, Breaks}
-use Rattle.kt_infer.specs.Noting.{Keeps, Judges, JudgesAll, IsOpened, OpensIn, Opens, OpensAs, is_valued, by_last, outcome_of}
+use Rattle.kt_infer.specs.Noting.{Keeps, Judges, JudgesAll, OpensIn, Opens, OpensAs, is_valued, by_last}
+use Rattle.kt_infer.specs.Opening.{IsOpened, outcome_of}
 use Rattle.kt_infer.specs.declared.notes.Notes.{Notes}
 use Rattle.kt_infer.specs.declared.notes.Opened.{Opened}
-use Rattle.kt_infer.proofs.Passing.{same_judgements, none, changed, front, only, one, two, first, opens_in, opens}
+use Rattle.kt_infer.proofs.Passing.{same_judgements, none, changed, front, only, one, two, first, opens_in, opens, typed_end}
 
 pub opens_shut : (cx : TypeContext) (a : Notes) (n : Mark) {o : Opened} → IsOpened o n.number n.span true (Breaks Syntax n.span) → Opens cx a a (Shut' n) o
 unfolding judged
@@ -47,22 +48,6 @@ opens_leaf cx a n operation claim e q =
 pub opens_throw : (cx : TypeContext) (a : Notes) (n : Mark) (e : Tree) {o : Opened} → IsOpened o n.number n.span true (Breaks Syntax n.span) → Opens cx a a (Throw' n e) o
 unfolding judged
 opens_throw cx a n e q = opens cx (Throw' n e) n (no_trees a.locals.entries) (Breaks Syntax n.span) (λ way. refl) (none a) refl q
-
--- an `if` whose value is taken
-pub refuses_if : (cx : TypeContext) (a : Notes) (n : Mark) (e : Tree) (x y : Trees) {o : Opened} {valued : Bool} → valued ≡ true
-    → IsOpened o n.number n.span true (Breaks Syntax n.span) → OpensAs cx valued a a (If' n e x y) o
-unfolding judged
-refuses_if cx a n e x y {o} {valued} h q = record { in_such_way = in_such_way }
-  where
-    shuts : (way : Way) → judged cx way a.locals.entries (If' n e x y) ≡ closed cx way n (no_trees a.locals.entries) (Breaks Syntax n.span)
-        → OpensIn a a (judged cx way a.locals.entries (If' n e x y)) (outcome_of cx.classes way o) o
-    shuts way form = opens_in cx (If' n e x y) n (no_trees a.locals.entries) (Breaks Syntax n.span) way form (none a) refl q
-
-    in_such_way : (way : Way) → is_valued way ≡ valued → OpensIn a a (judged cx way a.locals.entries (If' n e x y)) (outcome_of cx.classes way o) o
-    in_such_way Unvalued k = absurd (false≢true (k ∙ h))
-    in_such_way Plain k = shuts Plain refl
-    in_such_way Inferred k = shuts Inferred refl
-    in_such_way (Checked t) k = shuts (Checked t) refl
 
 -- trees one behind the others
 abbrev joined : Judgements → Judgements → Judgements
@@ -112,7 +97,7 @@ pub opens_if : (cx : TypeContext) {a b c d : Notes} (n : Mark) (e : Tree) (x y :
 unfolding judged
 opens_if cx {a} {b} {c} {d} n e x y {f} {k} {m} {o} {valued} h p q r w = record { in_such_way = in_such_way }
   where
-    in_such_way : (way : Way) → is_valued way ≡ valued → OpensIn a d (judged cx way a.locals.entries (If' n e x y)) (outcome_of cx.classes way o) o
+    in_such_way : (way : Way) → is_valued way ≡ valued → OpensIn a d (judged cx way a.locals.entries (If' n e x y)) cx.classes way o
     in_such_way Unvalued v = opens_in cx (If' n e x y) n (if_parts cx a.locals.entries e x y) (Gives unit) Unvalued refl (parts_of_if cx e x y p q r) refl w
     in_such_way Plain v = absurd (false≢true (sym (v ∙ h)))
     in_such_way Inferred v = absurd (false≢true (sym (v ∙ h)))
@@ -235,8 +220,8 @@ opens_binary cx {a} {b} {c} n operation operator t u {f} {g} e is p r q =
 pub text_operator : {cx : TypeContext} {a b : Notes} {t : Tree} {o : Opened} {operator : Option Operator} → OpensAs cx true a b t o
     → operator ≡ Some (sum_operator (is_text (type_in (outcome_of cx.classes Inferred o)))) → operator_of Sum' (is_text (judged cx Inferred a.locals.entries t).found) ≡ operator
 text_operator {cx} {a} {b} {t} {o} p e =
-    let i : OpensIn a b (judged cx Inferred a.locals.entries t) (outcome_of cx.classes Inferred o) o = p.in_such_way Inferred refl in
-    ap (λ f. Some (sum_operator (is_text f))) i.open_type ∙ sym e
+    let i : OpensIn a b (judged cx Inferred a.locals.entries t) cx.classes Inferred o = p.in_such_way Inferred refl in
+    ap (λ f. Some (sum_operator (is_text f))) (typed_end o (outcome_of cx.classes Inferred o) (judged cx Inferred a.locals.entries t).found i.open_type) ∙ sym e
 
 -- both operands of a sum are valued
 valued_left : (text : Bool) → is_valued (left_way (Some (sum_operator text))) ≡ true

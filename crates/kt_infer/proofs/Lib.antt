@@ -1,5 +1,6 @@
 pub mod Supers
 pub mod Passing
+pub mod Ends
 pub mod Forms
 pub mod OtherNames
 pub mod Whole

@@ -1,21 +1,24 @@
 -- How what is said of parts is put together.
 use Rattle.std.proofs.Common.{◌≡◌, ℕ, suc, ◌<◌, ◌&&◌, drop, drop-cons, get_or, Bool, true, false, List, [], ◌∷◌, ◌++◌, length, map, Option, Some, None, is_some, refl, sym, ap, ◌∙◌, subst, append_assoc, append-nil}
+use Rattle.std.proofs.lemmas.Bool.{false≢true}
 use Rattle.kt_tree.specs.declared.token.Span.{Span}
 use Rattle.kt_tree.specs.declared.ast.body.Expr.{Expr}
 use Rattle.kt_tree.specs.declared.ast.body.Stmt.{Stmt}
 use Rattle.kt_tree.specs.declared.ast.body.StringPart.{StringPart}
 use Rattle.kt_model.specs.declared.uses.Named.{Named}
 use Rattle.kt_model.specs.BodyTrees.{Tree, Trees, Mark, whole, Paren', Empty', First', Piece, Text', Inserted', inserted_of, Seen, seen, seen_trees, seen_optional, listed, expr_tree, stmt_tree, piece}
-use Rattle.kt_typing.specs.Typing.{TypeContext, LocalTypes, Ways, Each, Then, first_way, rest_ways, Judgement, Judgements, no_trees, in_front, alone, closed, outcome, type_in, finding_in, have_types, judged, all_judged, inside, old_value, last_of, count}
+use Rattle.kt_typing.specs.Typing.{TypeContext, LocalTypes, Ways, Each, Then, first_way, rest_ways, Judgement, Judgements, no_trees, in_front, alone, closed, outcome, type_in, finding_in, have_types, judged, all_judged, inside, old_value, last_of, count, first_of, branch_way, joined_claim}
 use Rattle.kt_model.specs.Classes.{Classes}
 use Rattle.kt_model.specs.declared.kinds.KtType.{KtType}
 use Rattle.kt_typing.specs.declared.claims.Way.{Way}
 use Rattle.kt_typing.specs.declared.claims.Way.TheVariants.{Unvalued, Plain, Inferred, Checked}
 use Rattle.kt_typing.specs.declared.claims.Claim.{Claim}
+use Rattle.kt_typing.specs.declared.claims.Outcome.{Outcome}
 use Rattle.kt_typing.specs.declared.claims.Claim.TheVariants.{Gives, Breaks, Lacks}
-use Rattle.kt_infer.specs.Noting.{Keeps, Judges, JudgesAll, IsOpened, OpensIn, Opens, OpensAs, Closes, Continues, ContinuesBranch, is_valued, by_last, ends_typed, outcome_of, own_rows, rows_of}
+use Rattle.kt_infer.specs.Noting.{Keeps, Judges, JudgesAll, OpensIn, Opens, OpensAs, Closes, Continues, ContinuesBranch, is_valued, by_last, ends_typed}
+use Rattle.kt_infer.specs.Opening.{IsOpened, stem_of, enclosed_by, end_of, ends_of, outcome_of, rows_of, rows_behind, rows_within, findings_behind, findings_within}
 use Rattle.kt_infer.specs.declared.notes.Notes.{Notes}
-use Rattle.kt_infer.specs.declared.notes.Opened.{Opened}
+use Rattle.kt_infer.specs.declared.notes.Opened.{Opened, Alone, Joined', Absent}
 
 -- the same under other names
 pub same_tree : {cx : TypeContext} {a b : Notes} {t u : Tree} {o : Opened} → u ≡ t → Opens cx a b t o → Opens cx a b u o
@@ -27,6 +30,10 @@ every {cx} {a} {b} {t} {u} {o} valued e p = let w : Opens cx a b u o = same_tree
 
 pub same_such : {cx : TypeContext} {a b : Notes} {t u : Tree} {o : Opened} {valued : Bool} → u ≡ t → OpensAs cx valued a b t o → OpensAs cx valued a b u o
 same_such {cx} {a} {b} {t} {u} {o} {valued} e w = subst (λ r. OpensAs cx valued a b r o) (sym e) w
+
+-- whether the value is taken, under another name
+pub as_valued : {cx : TypeContext} {a b : Notes} {t : Tree} {o : Opened} {v w : Bool} → v ≡ w → OpensAs cx v a b t o → OpensAs cx w a b t o
+as_valued {cx} {a} {b} {t} {o} e p = subst (λ v. OpensAs cx v a b t o) e p
 
 pub same_judgements : {a b : Notes} {js ks : Judgements} {k : Bool} → ks ≡ js → JudgesAll a b js k → JudgesAll a b ks k
 same_judgements {a} {b} {js} {ks} {k} e w = subst (λ r. JudgesAll a b r k) (sym e) w
@@ -94,21 +101,33 @@ two cx t u left right p q = first cx t (First' u Empty') (Then left (Each right)
 
 -- ---- a tree is opened, then ended in its way
 
+abbrev is_empty : List (Option KtType) → Bool
+is_empty [] = true
+is_empty (t ∷ ts) = false
+
+pub no_end : {t : Option KtType} → t ∷ [] ≡ [] → ⊥
+no_end e = false≢true (ap is_empty e)
+
+pub typed_end : (o : Opened) (r : Outcome) (f : Option KtType) → f ∷ [] ≡ end_of o r → f ≡ type_in r
+typed_end (Alone stem claim) r f e = ap first_of e
+typed_end (Joined' stem u x between v y) r f e = ap first_of e
+typed_end Absent r f e = absurd (no_end e)
+
 pub ends : {cx : TypeContext} {a b c : Notes} {t : Tree} {o : Opened} {f : Option KtType} {valued : Bool} (way : Way) → is_valued way ≡ valued
-    → OpensAs cx valued a b t o → Closes b c (outcome_of cx.classes way o) o f → Judges a c (judged cx way a.locals.entries t) f
+    → OpensAs cx valued a b t o → Closes cx.classes way b c o f → Judges a c (judged cx way a.locals.entries t) f
 ends {cx} {a} {b} {c} {t} {o} way k p q =
-    let i : OpensIn a b (judged cx way a.locals.entries t) (outcome_of cx.classes way o) o = p.in_such_way way k in
+    let i : OpensIn a b (judged cx way a.locals.entries t) cx.classes way o = p.in_such_way way k in
     record {
-      same_type = q.closed_type ∙ sym i.open_type;
-      more_rows = q.closed_rows ∙ sym i.open_rows;
-      more_findings = q.closed_findings ∙ sym i.open_findings;
-      same_locals = q.closed_locals ∙ i.open_locals;
+      same_type = q.closed_type ∙ sym (typed_end o (outcome_of cx.classes way o) (judged cx way a.locals.entries t).found i.open_type);
+      more_rows = q.closed_notes.added_rows ∙ sym i.open_rows;
+      more_findings = q.closed_notes.added_findings ∙ sym i.open_findings;
+      same_locals = q.closed_notes.kept_locals ∙ i.open_locals;
     }
 
 -- the same in a way under another name
 pub ends_in : {cx : TypeContext} {a b c : Notes} {t : Tree} {o : Opened} {f : Option KtType} {valued : Bool} (way : Way) → is_valued way ≡ valued → {w : Way} → w ≡ way
-    → OpensAs cx valued a b t o → Closes b c (outcome_of cx.classes w o) o f → Judges a c (judged cx way a.locals.entries t) f
-ends_in {cx} {a} {b} {c} {t} {o} {f} way k e p q = ends way k p (subst (λ v. Closes b c (outcome_of cx.classes v o) o f) e q)
+    → OpensAs cx valued a b t o → Closes cx.classes w b c o f → Judges a c (judged cx way a.locals.entries t) f
+ends_in {cx} {a} {b} {c} {t} {o} {f} way k e p q = ends way k p (subst (λ v. Closes cx.classes v b c o f) e q)
 
 pub judges_in : (cx : TypeContext) {a b : Notes} (t : Tree) {f : Option KtType} (way : Way) {w : Way} → w ≡ way → Judges a b (judged cx w a.locals.entries t) f → Judges a b (judged cx way a.locals.entries t) f
 judges_in cx {a} {b} t {f} way e p = subst (λ v. Judges a b (judged cx v a.locals.entries t) f) e p
@@ -117,45 +136,41 @@ judges_in cx {a} {b} t {f} way e p = subst (λ v. Judges a b (judged cx v a.loca
 pub judges_of : (cx : TypeContext) {a b : Notes} (uses : ℕ → Named) (way : Way) {x y : Expr} {f : Option KtType} → y ≡ x → Judges a b (judged cx way a.locals.entries (expr_tree uses y)) f → Judges a b (judged cx way a.locals.entries (expr_tree uses x)) f
 judges_of cx {a} {b} uses way {x} {y} {f} e p = subst (λ z. Judges a b (judged cx way a.locals.entries (expr_tree uses z)) f) e p
 
+-- two parts behind references
+pub parts_of : (uses : ℕ → Named) (make : Tree → Tree → Tree) {a b x y : Expr} → x ≡ a → y ≡ b → make (expr_tree uses a) (expr_tree uses b) ≡ make (expr_tree uses x) (expr_tree uses y)
+parts_of uses make {a} {b} {x} {y} e f = ap (λ z. make (expr_tree uses z) (expr_tree uses b)) (sym e) ∙ ap (λ z. make (expr_tree uses x) (expr_tree uses z)) (sym f)
+
 pub opened_if : {o : Opened} {n : ℕ} {at : Span} {m k : Bool} {claim : Claim} → m ≡ k → IsOpened o n at m claim → IsOpened o n at k claim
 opened_if {o} {n} {at} {m} {k} {claim} e p = subst (λ b. IsOpened o n at b claim) e p
 
 pub same_keeps : {a b : Notes} {l m : LocalTypes} → l ≡ m → Keeps a b l → Keeps a b m
 same_keeps {a} {b} e p = subst (λ l. Keeps a b l) e p
 
-pub same_outcome : (classes : Classes) (way : Way) (o : Opened) (n : ℕ) (at : Span) (k : Bool) (claim : Claim) → IsOpened o n at k claim → outcome_of classes way o ≡ outcome classes way at k claim
-same_outcome classes way o n at k claim h =
-    ap (λ s. outcome classes way s o.complete o.claim) h.same_span
-    ∙ ap (λ b. outcome classes way at b o.claim) h.same_complete
-    ∙ ap (outcome classes way at k) h.same_claim
-
 -- a tree in a way, by its parts and what it is where they have types
 pub opens_in : (cx : TypeContext) {a b : Notes} (t : Tree) {o : Opened} {complete : Bool} {made : Claim} (n : Mark) (parts : Judgements) (claim : Claim) (way : Way)
     → judged cx way a.locals.entries t ≡ closed cx way n parts claim
-    → JudgesAll a b parts complete → made ≡ claim → IsOpened o n.number n.span complete made → OpensIn a b (judged cx way a.locals.entries t) (outcome_of cx.classes way o) o
-opens_in cx {a} {b} t {o} {complete} {made} n parts claim way form p m q = record {
-  open_type = ap (λ j. j.found) form ∙ ap type_in (sym same);
-  open_rows =
-      ap (λ j. a.rows ++ j.rows) form
-      ∙ sym (append_assoc a.rows parts.rows (rows_of (n.number ∷ []) (type_in (outcome cx.classes way n.span (have_types parts.each_found) claim))))
-      ∙ ap (λ l. l ++ rows_of (n.number ∷ []) (type_in (outcome cx.classes way n.span (have_types parts.each_found) claim))) (sym p.all_rows)
-      ∙ ap (λ r. b.rows ++ rows_of (n.number ∷ []) (type_in r)) (sym same)
-      ∙ ap (λ l. b.rows ++ l) (row (type_in (outcome_of cx.classes way o)));
-  open_findings =
-      ap (λ j. a.findings.items ++ j.findings) form
-      ∙ sym (append_assoc a.findings.items parts.findings (finding_in (outcome cx.classes way n.span (have_types parts.each_found) claim)))
-      ∙ ap (λ l. l ++ finding_in (outcome cx.classes way n.span (have_types parts.each_found) claim)) (sym p.all_findings)
-      ∙ ap (λ r. b.findings.items ++ finding_in r) (sym same);
-  open_locals = p.all_locals ∙ ap (λ j. j.locals) (sym form);
-}
+    → JudgesAll a b parts complete → made ≡ claim → IsOpened o n.number n.span complete made → OpensIn a b (judged cx way a.locals.entries t) cx.classes way o
+opens_in cx {a} {b} t {o} {complete} {made} n parts claim way form p m q =
+    subst (λ z. OpensIn a b (judged cx way a.locals.entries t) cx.classes way z) (sym q) alone_in
   where
-    same : outcome_of cx.classes way o ≡ outcome cx.classes way n.span (have_types parts.each_found) claim
-    same =
-        same_outcome cx.classes way o n.number n.span complete made q ∙ ap (outcome cx.classes way n.span complete) m
-        ∙ ap (λ b. outcome cx.classes way n.span b claim) p.same_types
+    same : outcome cx.classes way n.span complete made ≡ outcome cx.classes way n.span (have_types parts.each_found) claim
+    same = ap (outcome cx.classes way n.span complete) m ∙ ap (λ b. outcome cx.classes way n.span b claim) p.same_types
 
-    row : (found : Option KtType) → rows_of (n.number ∷ []) found ≡ own_rows o found
-    row found = ap (λ l. rows_of (n.number ∷ l) found) (sym q.no_parens) ∙ ap (λ m. rows_of (m ∷ o.parens.items) found) (sym q.same_number)
+    alone_in : OpensIn a b (judged cx way a.locals.entries t) cx.classes way (Alone (stem_of n.number n.span complete) made)
+    alone_in = record {
+      open_type = ap (λ j. j.found ∷ []) form ∙ ap (λ r. type_in r ∷ []) (sym same);
+      open_rows =
+          ap (λ j. a.rows ++ j.rows) form
+          ∙ sym (append_assoc a.rows parts.rows (rows_of (n.number ∷ []) (type_in (outcome cx.classes way n.span (have_types parts.each_found) claim))))
+          ∙ ap (λ l. l ++ rows_of (n.number ∷ []) (type_in (outcome cx.classes way n.span (have_types parts.each_found) claim))) (sym p.all_rows)
+          ∙ ap (λ r. b.rows ++ rows_of (n.number ∷ []) (type_in r)) (sym same);
+      open_findings =
+          ap (λ j. a.findings.items ++ j.findings) form
+          ∙ sym (append_assoc a.findings.items parts.findings (finding_in (outcome cx.classes way n.span (have_types parts.each_found) claim)))
+          ∙ ap (λ l. l ++ finding_in (outcome cx.classes way n.span (have_types parts.each_found) claim)) (sym p.all_findings)
+          ∙ ap (λ r. b.findings.items ++ finding_in r) (sym same);
+      open_locals = p.all_locals ∙ ap (λ j. j.locals) (sym form);
+    }
 
 -- the same in every way
 pub opens : (cx : TypeContext) {a b : Notes} (t : Tree) {o : Opened} {complete : Bool} {made : Claim} (n : Mark) (parts : Judgements) (claim : Claim)
@@ -184,42 +199,92 @@ inside_valued Plain = refl
 inside_valued Inferred = refl
 inside_valued (Checked t) = refl
 
--- one more pair round a tree
-pub encloses : {cx : TypeContext} {a b : Notes} {t : Tree} {o q : Opened} (n : Mark) → OpensAs cx true a b t o
-    → q.number ≡ o.number → q.span ≡ o.span → q.complete ≡ o.complete → q.claim ≡ o.claim → q.parens.items ≡ o.parens.items ++ n.number ∷ []
-    → Opens cx a b (Paren' n t) q
+-- one more pair of parentheses around a tree
+
+inner_way : (way : Way) → branch_way (inside way) ≡ branch_way way
+inner_way Unvalued = refl
+inner_way Plain = refl
+inner_way Inferred = refl
+inner_way (Checked t) = refl
+
+inner_claim : (classes : Classes) (way : Way) (n : Mark) (xs ys : List (Option KtType)) → joined_claim classes (inside way) n xs ys ≡ joined_claim classes way n xs ys
+inner_claim classes Unvalued n (Some x ∷ xs) (Some y ∷ ys) = refl
+inner_claim classes Unvalued n (Some x ∷ xs) (None ∷ ys) = refl
+inner_claim classes Unvalued n (Some x ∷ xs) [] = refl
+inner_claim classes Unvalued n (None ∷ xs) (y ∷ ys) = refl
+inner_claim classes Unvalued n (None ∷ xs) [] = refl
+inner_claim classes Unvalued n [] ys = refl
+inner_claim classes Plain n xs ys = refl
+inner_claim classes Inferred n xs ys = refl
+inner_claim classes (Checked t) n xs ys = refl
+
+inner_outcome : (classes : Classes) (way : Way) (o : Opened) (k : ℕ) → outcome_of classes (inside way) o ≡ outcome_of classes way (enclosed_by k o)
+inner_outcome classes way (Alone stem claim) k = same_inside classes way stem.span stem.complete claim
+inner_outcome classes way (Joined' stem u x between v y) k =
+    let made = λ (v w : Way). outcome classes Plain stem.span (stem.complete && have_types (ends_of classes w x ++ ends_of classes w y)) (joined_claim classes v (whole stem.number stem.span) (ends_of classes w x) (ends_of classes w y)) in
+    ap (made (inside way)) (inner_way way)
+    ∙ ap (outcome classes Plain stem.span (stem.complete && have_types (ends_of classes (branch_way way) x ++ ends_of classes (branch_way way) y)))
+    (inner_claim classes way (whole stem.number stem.span) (ends_of classes (branch_way way) x) (ends_of classes (branch_way way) y))
+inner_outcome classes way Absent k = refl
+
+inner_end : (o : Opened) (k : ℕ) (r : Outcome) → end_of o r ≡ end_of (enclosed_by k o) r
+inner_end (Alone stem claim) k r = refl
+inner_end (Joined' stem u x between v y) k r = refl
+inner_end Absent k r = refl
+
+-- a row behind four lists
+behind_four : {A : Type 0} (xs ys zs us vs : List A) → (xs ++ (ys ++ (zs ++ us))) ++ vs ≡ xs ++ (ys ++ (zs ++ (us ++ vs)))
+behind_four xs ys zs us vs =
+    append_assoc xs (ys ++ (zs ++ us)) vs ∙ ap (λ l. xs ++ l) (append_assoc ys (zs ++ us) vs ∙ ap (λ l. ys ++ l) (append_assoc zs us vs))
+
+inner_rows : (classes : Classes) (way : Way) (o : Opened) (k : ℕ) (f : Option KtType) → f ∷ [] ≡ end_of o (outcome_of classes (inside way) o)
+    → rows_behind classes (inside way) o ++ rows_of (k ∷ []) f ≡ rows_behind classes way (enclosed_by k o)
+inner_rows classes way (Alone stem claim) k f e =
+    let r = outcome_of classes (inside way) (Alone stem claim) in
+    ap (λ g. rows_of (stem.number ∷ stem.parens) (type_in r) ++ rows_of (k ∷ []) g) (typed_end (Alone stem claim) r f e)
+    ∙ sym (rows_of-append (stem.number ∷ stem.parens) (k ∷ []) (type_in r))
+    ∙ ap (λ q. rows_of (stem.number ∷ (stem.parens ++ k ∷ [])) (type_in q)) (inner_outcome classes way (Alone stem claim) k)
+inner_rows classes way (Joined' stem u x between v y) k f e =
+    let r = outcome_of classes (inside way) (Joined' stem u x between v y) in
+    let own = λ (w : Way) (q : Outcome). rows_within classes w x ++ (between.rows ++ (rows_within classes w y ++ rows_of (stem.number ∷ (stem.parens ++ k ∷ [])) (type_in q))) in
+    behind_four (rows_within classes (branch_way (inside way)) x) between.rows (rows_within classes (branch_way (inside way)) y) (rows_of (stem.number ∷ stem.parens) (type_in r)) (rows_of (k ∷ []) f)
+    ∙ ap (λ l. rows_within classes (branch_way (inside way)) x ++ (between.rows ++ (rows_within classes (branch_way (inside way)) y ++ l)))
+    (ap (λ g. rows_of (stem.number ∷ stem.parens) (type_in r) ++ rows_of (k ∷ []) g) (typed_end (Joined' stem u x between v y) r f e)
+    ∙ sym (rows_of-append (stem.number ∷ stem.parens) (k ∷ []) (type_in r)))
+    ∙ ap (λ w. own w r) (inner_way way)
+    ∙ ap (own (branch_way way)) (inner_outcome classes way (Joined' stem u x between v y) k)
+inner_rows classes way Absent k f e = absurd (no_end e)
+
+inner_findings : (classes : Classes) (way : Way) (o : Opened) (k : ℕ) → findings_behind classes (inside way) o ≡ findings_behind classes way (enclosed_by k o)
+inner_findings classes way (Alone stem claim) k = ap finding_in (inner_outcome classes way (Alone stem claim) k)
+inner_findings classes way (Joined' stem u x between v y) k =
+    let own = λ (w : Way) (q : Outcome). findings_within classes w x ++ (between.findings.items ++ (findings_within classes w y ++ finding_in q)) in
+    ap (λ w. own w (outcome_of classes (inside way) (Joined' stem u x between v y))) (inner_way way)
+    ∙ ap (own (branch_way way)) (inner_outcome classes way (Joined' stem u x between v y) k)
+inner_findings classes way Absent k = refl
+
+pub encloses : {cx : TypeContext} {a b : Notes} {t : Tree} {o q : Opened} (n : Mark) {k : ℕ} → OpensAs cx true a b t o → n.number ≡ k → q ≡ enclosed_by k o → Opens cx a b (Paren' n t) q
 unfolding judged
-encloses {cx} {a} {b} {t} {o} {q} n p e1 e2 e3 e4 e5 = record { in_way = in_way }
+encloses {cx} {a} {b} {t} {o} {q} n {k} p is e = subst (λ z. Opens cx a b (Paren' n t) z) (sym e) all_ways
   where
-    same : (way : Way) → outcome_of cx.classes (inside way) o ≡ outcome_of cx.classes way q
-    same way =
-        same_inside cx.classes way o.span o.complete o.claim
-        ∙ ap (λ s. outcome cx.classes way s o.complete o.claim) (sym e2)
-        ∙ ap (λ k. outcome cx.classes way q.span k o.claim) (sym e3)
-        ∙ ap (outcome cx.classes way q.span q.complete) (sym e4)
-
-    row : (found : Option KtType) → own_rows o found ++ rows_of (n.number ∷ []) found ≡ own_rows q found
-    row found =
-        sym (rows_of-append (o.number ∷ o.parens.items) (n.number ∷ []) found)
-        ∙ ap (λ l. rows_of (o.number ∷ l) found) (sym e5)
-        ∙ ap (λ m. rows_of (m ∷ q.parens.items) found) (sym e1)
-
-    in_way : (way : Way) → OpensIn a b (judged cx way a.locals.entries (Paren' n t)) (outcome_of cx.classes way q) q
+    in_way : (way : Way) → OpensIn a b (judged cx way a.locals.entries (Paren' n t)) cx.classes way (enclosed_by k o)
     in_way way =
-        let i : OpensIn a b (judged cx (inside way) a.locals.entries t) (outcome_of cx.classes (inside way) o) o = p.in_such_way (inside way) (inside_valued way) in
+        let i : OpensIn a b (judged cx (inside way) a.locals.entries t) cx.classes (inside way) o = p.in_such_way (inside way) (inside_valued way) in
         let inner = judged cx (inside way) a.locals.entries t in
         record {
-          open_type = i.open_type ∙ ap type_in (same way);
+          open_type = i.open_type ∙ inner_end o k (outcome_of cx.classes (inside way) o) ∙ ap (end_of (enclosed_by k o)) (inner_outcome cx.classes way o k);
           open_rows =
-              sym (append_assoc a.rows inner.rows (rows_of (n.number ∷ []) inner.found))
-              ∙ ap (λ l. l ++ rows_of (n.number ∷ []) inner.found) i.open_rows
-              ∙ append_assoc b.rows (own_rows o (type_in (outcome_of cx.classes (inside way) o))) (rows_of (n.number ∷ []) inner.found)
-              ∙ ap (λ f. b.rows ++ (own_rows o (type_in (outcome_of cx.classes (inside way) o)) ++ rows_of (n.number ∷ []) f)) i.open_type
-              ∙ ap (λ l. b.rows ++ l) (row (type_in (outcome_of cx.classes (inside way) o)))
-              ∙ ap (λ r. b.rows ++ own_rows q (type_in r)) (same way);
-          open_findings = i.open_findings ∙ ap (λ r. b.findings.items ++ finding_in r) (same way);
+              ap (λ m. a.rows ++ (inner.rows ++ rows_of (m ∷ []) inner.found)) is
+              ∙ sym (append_assoc a.rows inner.rows (rows_of (k ∷ []) inner.found))
+              ∙ ap (λ l. l ++ rows_of (k ∷ []) inner.found) i.open_rows
+              ∙ append_assoc b.rows (rows_behind cx.classes (inside way) o) (rows_of (k ∷ []) inner.found)
+              ∙ ap (λ l. b.rows ++ l) (inner_rows cx.classes way o k inner.found i.open_type);
+          open_findings = i.open_findings ∙ ap (λ l. b.findings.items ++ l) (inner_findings cx.classes way o k);
           open_locals = i.open_locals;
         }
+
+    all_ways : Opens cx a b (Paren' n t) (enclosed_by k o)
+    all_ways = record { in_way = in_way }
 
 -- ---- loops: what is left completes the whole
 

@@ -1,26 +1,22 @@
 -- How the notes of a body grow by what is said of its trees.
-use Rattle.std.specs.Prelude.{◌≡◌, ◌++◌, ◌&&◌, ◌∷◌, [], ℕ, Bool, true, false, is_some, List, Option, map}
-use Rattle.kt_tree.specs.declared.token.Span.{Span}
+use Rattle.std.specs.Prelude.{◌≡◌, ◌++◌, ◌&&◌, ◌∷◌, [], ℕ, Bool, true, false, is_some, List, Option}
 use Rattle.kt_model.specs.Classes.{Classes, outlines, written}
-use Rattle.kt_model.specs.BodyTrees.{Tree}
-use Rattle.kt_typing.specs.Typing.{TypeContext, LocalTypes, Judgement, Judgements, context_of, outcome, type_in, finding_in, have_types, judged, last_of}
+use Rattle.kt_model.specs.BodyTrees.{Tree, Trees}
+use Rattle.kt_typing.specs.Typing.{TypeContext, LocalTypes, Judgement, Judgements, context_of, type_in, have_types, judged, all_judged, last_of, branch_ways}
 use Rattle.kt_model.specs.declared.kinds.KtType.{KtType}
 use Rattle.kt_typing.specs.declared.claims.Way.{Way}
 use Rattle.kt_typing.specs.declared.claims.Way.TheVariants.{Unvalued}
-use Rattle.kt_typing.specs.declared.claims.Claim.{Claim}
-use Rattle.kt_typing.specs.declared.claims.Outcome.{Outcome}
+use Rattle.kt_model.specs.declared.finding.Finding.{Finding}
 use Rattle.kt_typing.specs.declared.claims.TypeRow.{TypeRow}
 use Rattle.kt_model.specs.declared.uses.Body.{Body}
 use Rattle.kt_infer.specs.declared.notes.Notes.{Notes}
+use Rattle.kt_infer.specs.declared.notes.Between.{Between}
 use Rattle.kt_infer.specs.declared.notes.Opened.{Opened}
+use Rattle.kt_infer.specs.Opening.{end_of, outcome_of, rows_behind, findings_behind}
 
 -- what typing looks at in a body
 abbrev pub typing_of : Body → TypeContext
 typing_of body = context_of (written (outlines body.table.now)) body.uses.now body.owner
-
--- rows of trees that have one type
-abbrev pub rows_of : List ℕ → Option KtType → List TypeRow
-rows_of trees found = map (λ n. record { tree = n; found = found }) trees
 
 -- the value of a tree in its way is taken
 abbrev pub is_valued : Way → Bool
@@ -56,43 +52,50 @@ pub record JudgesAll (old new : Notes) (js : Judgements) (complete : Bool) : Typ
   pub all_findings : new.findings.items ≡ old.findings.items ++ js.findings
   pub all_locals : new.locals.entries ≡ js.locals
 
--- a tree that stands alone
-pub record IsOpened (o : Opened) (number : ℕ) (span : Span) (complete : Bool) (claim : Claim) : Type 0 where
-  pub same_number : o.number ≡ number
-  pub same_span : o.span ≡ span
-  pub no_parens : o.parens.items ≡ []
-  pub same_complete : o.complete ≡ complete
-  pub same_claim : o.claim ≡ claim
+-- rows and findings were added, and nothing else
+pub record Adds (old new : Notes) (rows : List TypeRow) (findings : List Finding) : Type 0 where
+  pub added_rows : new.rows ≡ old.rows ++ rows
+  pub added_findings : new.findings.items ≡ old.findings.items ++ findings
+  pub kept_locals : new.locals.entries ≡ old.locals.entries
 
--- an opened tree in a way
-abbrev pub outcome_of : Classes → Way → Opened → Outcome
-outcome_of classes way o = outcome classes way o.span o.complete o.claim
+-- rows and findings were taken out, and others put in their place
+pub record Exchanges (old new : Notes) (given taken : Between) : Type 0 where
+  pub given_rows : new.rows ≡ given.rows
+  pub given_findings : new.findings.items ≡ given.findings.items
+  pub taken_rows : taken.rows ≡ old.rows
+  pub taken_findings : taken.findings.items ≡ old.findings.items
+  pub exchanged_locals : new.locals.entries ≡ old.locals.entries
 
--- the row of a tree, and those of the parentheses around it
-abbrev pub own_rows : Opened → Option KtType → List TypeRow
-own_rows o found = rows_of (o.number ∷ o.parens.items) found
+-- An opened tree was ended in a way.
+pub record Closes (classes : Classes) (way : Way) (old new : Notes) (o : Opened) (found : Option KtType) : Type 0 where
+  pub closed_type : found ≡ type_in (outcome_of classes way o)
+  pub closed_notes : Adds old new (rows_behind classes way o) (findings_behind classes way o)
 
--- An opened tree was ended: its own rows and its own finding were added.
-pub record Closes (old new : Notes) (outcome : Outcome) (o : Opened) (found : Option KtType) : Type 0 where
-  pub closed_type : found ≡ type_in outcome
-  pub closed_rows : new.rows ≡ old.rows ++ own_rows o (type_in outcome)
-  pub closed_findings : new.findings.items ≡ old.findings.items ++ finding_in outcome
-  pub closed_locals : new.locals.entries ≡ old.locals.entries
-
--- In a way, all but the tree's own rows and its own finding was added.
-pub record OpensIn (old new : Notes) (j : Judgement) (outcome : Outcome) (o : Opened) : Type 0 where
-  pub open_type : j.found ≡ type_in outcome
-  pub open_rows : old.rows ++ j.rows ≡ new.rows ++ own_rows o (type_in outcome)
-  pub open_findings : old.findings.items ++ j.findings ≡ new.findings.items ++ finding_in outcome
+-- In a way, all was added but what ending the tree adds.
+pub record OpensIn (old new : Notes) (j : Judgement) (classes : Classes) (way : Way) (o : Opened) : Type 0 where
+  pub open_type : j.found ∷ [] ≡ end_of o (outcome_of classes way o)
+  pub open_rows : old.rows ++ j.rows ≡ new.rows ++ rows_behind classes way o
+  pub open_findings : old.findings.items ++ j.findings ≡ new.findings.items ++ findings_behind classes way o
   pub open_locals : new.locals.entries ≡ j.locals
+
+-- the same of trees one behind another, of which the last is opened, if there is one
+pub record OpensAllIn (old new : Notes) (js : Judgements) (classes : Classes) (way : Way) (o : Opened) : Type 0 where
+  pub end_type : last_of js.each_found ≡ end_of o (outcome_of classes way o)
+  pub end_rows : old.rows ++ js.rows ≡ new.rows ++ rows_behind classes way o
+  pub end_findings : old.findings.items ++ js.findings ≡ new.findings.items ++ findings_behind classes way o
+  pub end_locals : new.locals.entries ≡ js.locals
 
 -- A tree was opened: its parts were typed, which in each way are the same.
 pub record Opens (cx : TypeContext) (old new : Notes) (t : Tree) (o : Opened) : Type 0 where
-  pub in_way : (way : Way) → OpensIn old new (judged cx way old.locals.entries t) (outcome_of cx.classes way o) o
+  pub in_way : (way : Way) → OpensIn old new (judged cx way old.locals.entries t) cx.classes way o
 
 -- The same in the ways in which the value is taken, or in that in which it is not.
 pub record OpensAs (cx : TypeContext) (valued : Bool) (old new : Notes) (t : Tree) (o : Opened) : Type 0 where
-  pub in_such_way : (way : Way) → is_valued way ≡ valued → OpensIn old new (judged cx way old.locals.entries t) (outcome_of cx.classes way o) o
+  pub in_such_way : (way : Way) → is_valued way ≡ valued → OpensIn old new (judged cx way old.locals.entries t) cx.classes way o
+
+-- The statements of a branch whose value is taken were typed and the last was opened, if there is one.
+pub record OpensLast (cx : TypeContext) (old new : Notes) (ts : Trees) (o : Opened) : Type 0 where
+  pub last_in_way : (way : Way) → is_valued way ≡ true → OpensAllIn old new (all_judged cx (branch_ways way ts) old.locals.entries ts) cx.classes way o
 
 -- What is left of trees one behind another completes the whole.
 pub record Continues (old now : Notes) (whole left : Judgements) (complete : Bool) : Type 0 where

@@ -1,16 +1,20 @@
-//! The pass over branches and returns.
-ghost use Rattle.std.specs.Prelude.{◌≡◌, IfOk, option_map};
+//! The pass over branches and returns. Of a branch whose value is taken the last statement is opened, and ended in the way of the `if`.
+ghost use Rattle.std.specs.Prelude.{◌≡◌, ◌≤◌, IfOk, Option, length, map, option_map, take, true};
+ghost use Rattle.kt_tree.specs.declared.ast.body.Expr.{Expr};
+ghost use Rattle.kt_tree.specs.declared.ast.body.Branch.{Branch};
+ghost use Rattle.kt_tree.specs.declared.ast.body.ExprKind.TheVariants as kind;
 ghost use Rattle.kt_model.specs.NameUses.{named_at};
-ghost use Rattle.kt_model.specs.BodyTrees.{Return', branch_trees, expr_tree, otherwise, seen, seen_optional, whole};
+ghost use Rattle.kt_model.specs.BodyTrees.{Return', branch_trees, expr_tree, listed, otherwise, seen, seen_optional, stmt_tree, whole};
 ghost use Rattle.kt_typing.specs.Typing.{Each, all_judged};
 ghost use Rattle.kt_infer.specs.Families.{IsNoLogic, IsNoOperand, IsNoOperation};
-ghost use Rattle.kt_infer.specs.Noting.{JudgesAll, Opens, OpensAs, by_last, typing_of};
+ghost use Rattle.kt_infer.specs.Noting.{JudgesAll, Opens, OpensAs, OpensLast, by_last, typing_of};
 
 use crate::calls::owner_result;
 use crate::choices::{BOOLEAN, NOTHING, UNIT, bare_return, both, value_way};
-use crate::notes::{Notes, Opened, opened_tree, shut};
+use crate::notes::{Notes, Opened, nothing_between};
+use crate::opened::{joined_tree, opened_tree, shut};
 use kt_model::uses::Body;
-use kt_tree::ast::{Branch, Expr, ExprKind};
+use kt_tree::ast::{Branch, Expr, ExprKind, Stmt};
 use kt_tree::{NoMemory, Span};
 use kt_typing::{Claim, Way};
 use sqlite_items::Boxed;
@@ -28,7 +32,8 @@ impl Notes {
                 otherwise,
             } => {
                 if valued {
-                    return Ok(shut(self.alloc, e.number, e.span));
+                    let joined = self.joining(body, e)?;
+                    return Ok(joined);
                 }
                 let found = self.expr(body, Way::Checked(BOOLEAN), condition.get())?;
                 let first = self.branch(body, then.get())?;
@@ -47,6 +52,101 @@ impl Notes {
             ExprKind::Throw(_) => Ok(shut(self.alloc, e.number, e.span)),
             _ => Ok(shut(self.alloc, e.number, e.span)),
         }
+    }
+
+    /// Opens an `if` whose value is taken: what its branches end in is opened, and what is noted behind the end of the first is set aside.
+    #[cycle(typing)]
+    fn joining(&mut self, body: &Body<'_>, e: &Expr) -> Result<Opened, NoMemory>
+        ensures { IfOk result (λ o. (c : Expr) (x : Branch) (y : Option Branch) → e.now.kind ≡ kind.If c x y → OpensAs (typing_of body.now) true self.old self.new (expr_tree (named_at body.now.uses.now) e.now) o) }
+    {
+        match &e.kind {
+            ExprKind::If {
+                condition,
+                then,
+                otherwise,
+            } => {
+                let typed = self.expr(body, Way::Checked(BOOLEAN), condition.get())?;
+                let complete = typed.is_some();
+                let first = self.ending(body, then.get())?;
+                let nothing = nothing_between(self.alloc);
+                let before = self.exchange(nothing);
+                let second = self.other_ending(body, otherwise)?;
+                let between = self.exchange(before);
+                let (alloc, number, span) = (self.alloc, e.number, e.span);
+                let opened = joined_tree(alloc, number, span, complete, first, between, second)?;
+                Ok(opened)
+            }
+            _ => Ok(shut(self.alloc, e.number, e.span)),
+        }
+    }
+
+    /// Types the statements of a branch and opens the last, whose value is taken.
+    #[cycle(typing)]
+    fn ending(&mut self, body: &Body<'_>, branch: &Branch) -> Result<Opened, NoMemory>
+        ensures { IfOk result (OpensLast (typing_of body.now) self.old self.new (branch_trees (named_at body.now.uses.now) branch.now)) }
+    {
+        match branch {
+            Branch::Braced(block) => {
+                let last = self.last(body, block.statements.as_slice())?;
+                Ok(last)
+            }
+            Branch::Single(s) => {
+                let last = self.statement(body, true, s)?;
+                Ok(last)
+            }
+        }
+    }
+
+    /// Types what stands behind `else`, if anything does, and opens its last statement.
+    #[cycle(typing)]
+    fn other_ending(
+        &mut self,
+        body: &Body<'_>,
+        branch: &Option<Boxed<Branch>>,
+    ) -> Result<Opened, NoMemory>
+        ensures { IfOk result (OpensLast (typing_of body.now) self.old self.new (otherwise (option_map (branch_trees (named_at body.now.uses.now)) branch.now))) }
+    {
+        match branch {
+            Some(branch) => {
+                let last = self.ending(body, branch.get())?;
+                Ok(last)
+            }
+            None => Ok(Opened::Absent),
+        }
+    }
+
+    /// Types statements one behind another, and opens the last, whose value is taken.
+    #[cycle(typing)]
+    fn last(&mut self, body: &Body<'_>, statements: &[Stmt]) -> Result<Opened, NoMemory>
+        ensures { IfOk result (OpensLast (typing_of body.now) self.old self.new (listed (map (stmt_tree (named_at body.now.uses.now)) statements.now))) }
+    {
+        match statements.split_last() {
+            Some((s, before)) => {
+                self.leading(body, statements, before.len())?;
+                let last = self.statement(body, true, s)?;
+                Ok(last)
+            }
+            None => Ok(Opened::Absent),
+        }
+    }
+
+    /// Types so many statements from the first on; whether the last of them has a type.
+    #[cycle(typing)]
+    fn leading(
+        &mut self,
+        body: &Body<'_>,
+        statements: &[Stmt],
+        count: usize,
+    ) -> Result<bool, NoMemory>
+        requires { count ≤ length statements.now }
+        ensures { IfOk result (JudgesAll self.old self.new (by_last (all_judged (typing_of body.now) (Each Way.Unvalued) self.old.locals.entries (listed (map (stmt_tree (named_at body.now.uses.now)) (take count statements.now)))))) }
+    {
+        let mut complete = true;
+        for place in 0..count {
+            let found = self.stmt(body, &statements[place])?;
+            complete = found.is_some();
+        }
+        Ok(complete)
     }
 
     /// Opens a `return` of the function under way.

@@ -1,12 +1,13 @@
 //! The choices by which a tree gets its type, where its parts have theirs.
-ghost use Rattle.std.specs.Prelude.{◌≡◌, ◌&&◌, ◌∷◌, [], true, Bool, Option, is_some};
+ghost use Rattle.std.specs.Prelude.{◌≡◌, ◌&&◌, ◌++◌, ◌∷◌, [], true, Bool, Option, is_some};
 ghost use Rattle.kt_tree.specs.declared.token.Span.{Span};
 ghost use Rattle.kt_model.specs.Classes.{outlines, written};
 ghost use Rattle.kt_model.specs.BodyTrees as body;
 ghost use Rattle.kt_typing.specs.Typing as spec;
 ghost use Rattle.kt_infer.specs.Noting as noting;
+ghost use Rattle.kt_infer.specs.Opening.{last_type};
 
-use crate::subtypes::is_subtype;
+use crate::subtypes::{is_subtype, upper};
 use kt_model::class_table::ClassTable;
 use kt_model::finding::Rule;
 use kt_model::kinds::{Head, KtType};
@@ -194,6 +195,57 @@ pub fn equality_claim(apart: bool, span: Span) -> Claim
         Claim::Breaks(Rule::Equality, span)
     } else {
         Claim::Gives(BOOLEAN)
+    }
+}
+
+/// The way of what the branches of an `if` end in.
+pub fn branch_way(way: Way) -> Way
+    ensures { result ≡ spec.branch_way way }
+{
+    match way {
+        Way::Checked(t) => Way::Checked(t),
+        _ => Way::Inferred,
+    }
+}
+
+fn joined_type(table: &ClassTable, way: Way, first: KtType, second: KtType) -> KtType
+    ensures { result ≡ spec.joined_type (written (outlines table.now)) way first second }
+{
+    match way {
+        Way::Checked(t) => t,
+        _ => upper(table, first, second),
+    }
+}
+
+/// What an `if` is, by the types of what its branches end in.
+pub fn joined_claim(
+    table: &ClassTable,
+    way: Way,
+    span: Span,
+    first: Option<Option<KtType>>,
+    second: Option<Option<KtType>>,
+) -> Claim
+    ensures { (n : body.Mark) → n.span ≡ span → result ≡ spec.joined_claim (written (outlines table.now)) way n (last_type first) (last_type second) }
+{
+    match (first, second) {
+        (Some(Some(a)), Some(Some(b))) => Claim::Gives(joined_type(table, way, a, b)),
+        (Some(_), Some(_)) => Claim::Lacks,
+        _ => Claim::Breaks(Rule::Syntax, span),
+    }
+}
+
+/// Whether a condition, where it has a type, and the ends of two branches have types.
+pub fn joined_complete(
+    condition: bool,
+    first: Option<Option<KtType>>,
+    second: Option<Option<KtType>>,
+) -> bool
+    ensures { result ≡ (condition && spec.have_types (last_type first ++ last_type second)) }
+{
+    match (first, second) {
+        (Some(None), _) => false,
+        (_, Some(None)) => false,
+        _ => condition,
     }
 }
 

@@ -7,6 +7,7 @@ mod branches;
 mod calls;
 mod choices;
 mod notes;
+mod opened;
 mod operators;
 mod statements;
 mod subtypes;

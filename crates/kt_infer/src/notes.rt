@@ -1,19 +1,19 @@
-//! What was found of a body so far.
-ghost use Rattle.std.specs.Prelude.{◌≡◌, ◌++◌, ◌∷◌, [], map, nat_eq, true, Some, IfOk, OnOk};
+//! What was found of a body so far, and trees that are opened.
+ghost use Rattle.std.specs.Prelude.{◌≡◌, ◌++◌, ◌∷◌, [], map, nat_eq, true, OnOk};
 ghost use Rattle.std.specs.Map.{lookup};
-ghost use Rattle.kt_model.specs.Classes.{outlines, written};
 ghost use Rattle.kt_typing.specs.Typing as spec;
-ghost use Rattle.kt_infer.specs.Noting.{Closes, Keeps, IsOpened, outcome_of, rows_of};
+ghost use Rattle.kt_infer.specs.Noting.{Adds, Exchanges, Keeps};
+ghost use Rattle.kt_infer.specs.Opening.{own_rows, rows_of};
 
-use crate::choices::{is_text, outcome, sum_operator, type_in};
+use crate::choices::type_in;
 use indexmap::IndexMap;
-use kt_model::class_table::ClassTable;
-use kt_model::finding::{Finding, Rule};
+use kt_model::finding::Finding;
 use kt_model::kinds::KtType;
 use kt_tree::{NoMemory, Span};
-use kt_typing::{Claim, Operator, Outcome, TypeRow, Way};
-use sqlite_items::Items;
+use kt_typing::{Claim, Outcome, TypeRow};
+use sqlite_items::{Boxed, Items};
 use std::alloc::Global;
+use std::mem;
 
 /// The types of the locals that were declared, those of the trees that were typed, and the findings.
 #[derive(Drop)]
@@ -24,52 +24,43 @@ pub struct Notes {
     pub findings: Vec<Finding>,
 }
 
-/// A tree whose parts are typed, before its way is known. `parens` are the numbers of the parentheses around it, from the inner ones out: they have its
-/// type.
+/// Rows and findings that are set aside.
 #[derive(Drop)]
-pub struct Opened {
+pub struct Between {
+    pub rows: Items<TypeRow>,
+    pub findings: Vec<Finding>,
+}
+
+/// An opened tree by its number and span. `parens` are the numbers of the parentheses around it, from the inner ones out: they have its type.
+#[derive(Drop)]
+pub struct Stem {
     pub number: u32,
     pub span: Span,
-    pub parens: Vec<u32>,
-    /// Whether each part has a type.
+    pub parens: Items<u32>,
+    /// Whether each part that is typed already has a type.
     pub complete: bool,
-    pub claim: Claim,
 }
 
-impl Opened {
-    /// What `+` asks and gives where the tree is its left operand.
-    pub fn sum_operator(&self, table: &ClassTable) -> Option<Operator>
-        ensures { result ≡ Some (spec.sum_operator (spec.is_text (spec.type_in (outcome_of (written (outlines table.now)) Way.Inferred self.now)))) }
-    {
-        Some(sum_operator(is_text(self.inferred(table))))
-    }
-
-    /// The type of the tree as a value.
-    fn inferred(&self, table: &ClassTable) -> Option<KtType>
-        ensures { result ≡ spec.type_in (outcome_of (written (outlines table.now)) Way.Inferred self.now) }
-    {
-        type_in(outcome(table, Way::Inferred, self.span, self.complete, self.claim))
-    }
+/// A tree whose parts are typed, before its way is known.
+#[derive(Drop)]
+pub enum Opened {
+    /// A tree that is the same in each way, until it is checked.
+    Alone(Stem, Claim),
+    /// An `if` whose value is taken: what its two branches end in is typed in its way too. Between is what was noted behind the end of the first.
+    Joined(Stem, Boxed<Opened>, Between, Boxed<Opened>),
+    /// The end of an empty branch.
+    Absent,
 }
 
-/// A tree that stands alone.
-pub fn opened_tree(alloc: Global, number: u32, span: Span, complete: bool, claim: Claim) -> Opened
-    ensures { IsOpened result number span complete claim }
+/// Nothing set aside.
+pub fn nothing_between(alloc: Global) -> Between
+    ensures rows { result.rows ≡ [] }
+    ensures findings { result.findings.items ≡ [] }
 {
-    Opened {
-        number,
-        span,
-        parens: Vec::new(alloc),
-        complete,
-        claim,
+    Between {
+        rows: Items::new(alloc),
+        findings: Vec::new(alloc),
     }
-}
-
-/// A tree of a form that is not open.
-pub fn shut(alloc: Global, number: u32, span: Span) -> Opened
-    ensures { IsOpened result number span true (Claim.Breaks Rule.Syntax span) }
-{
-    opened_tree(alloc, number, span, true, Claim::Breaks(Rule::Syntax, span))
 }
 
 impl Notes {
@@ -157,23 +148,61 @@ impl Notes {
         Ok(())
     }
 
-    /// Ends a tree in its way, and gives its type.
-    pub fn close(
-        &mut self,
-        table: &ClassTable,
-        way: Way,
-        opened: &Opened,
-    ) -> Result<Option<KtType>, NoMemory>
-        ensures { IfOk result (Closes self.old self.new (outcome_of (written (outlines table.now)) way opened.now) opened.now) }
+    /// Adds the rows of a tree and of the parentheses around it, and its finding.
+    pub fn note(&mut self, stem: &Stem, outcome: Outcome) -> Result<(), NoMemory>
+        ensures { OnOk result (Adds self.old self.new (own_rows stem.now (spec.type_in outcome)) (spec.finding_in outcome)) }
     {
-        let outcome = outcome(table, way, opened.span, opened.complete, opened.claim);
         let found = type_in(outcome);
         self.rows.push(TypeRow {
-            tree: opened.number,
+            tree: stem.number,
             found,
         })?;
-        self.enclose(&opened.parens, found)?;
+        self.enclose(stem.parens.as_slice(), found)?;
         self.refuse(outcome)?;
-        Ok(found)
+        Ok(())
+    }
+
+    /// Adds rows.
+    fn add_rows(&mut self, rows: &[TypeRow]) -> Result<(), NoMemory>
+        ensures rows { OnOk result (self.new.rows ≡ self.old.rows ++ rows.now) }
+        ensures findings { OnOk result (self.new.findings.items ≡ self.old.findings.items) }
+        ensures locals { OnOk result (self.new.locals.entries ≡ self.old.locals.entries) }
+    {
+        for row in rows {
+            self.rows.push(*row)?;
+        }
+        Ok(())
+    }
+
+    /// Adds findings.
+    fn add_findings(&mut self, findings: &[Finding]) -> Result<(), NoMemory>
+        ensures findings { OnOk result (self.new.findings.items ≡ self.old.findings.items ++ findings.now) }
+        ensures rows { OnOk result (self.new.rows ≡ self.old.rows) }
+        ensures locals { OnOk result (self.new.locals.entries ≡ self.old.locals.entries) }
+    {
+        for finding in findings {
+            self.findings.push(*finding)?;
+        }
+        Ok(())
+    }
+
+    /// Adds what was set aside.
+    pub fn bring_back(&mut self, between: &Between) -> Result<(), NoMemory>
+        ensures { OnOk result (Adds self.old self.new between.now.rows between.now.findings.items) }
+    {
+        self.add_rows(between.rows.as_slice())?;
+        self.add_findings(between.findings.as_slice())?;
+        Ok(())
+    }
+
+    /// Sets aside the rows and the findings, with others in their place.
+    pub fn exchange(&mut self, other: Between) -> Between
+        ensures { Exchanges self.old self.new other result }
+    {
+        let Between { rows, findings } = other;
+        Between {
+            rows: mem::replace(&mut self.rows, rows),
+            findings: mem::replace(&mut self.findings, findings),
+        }
     }
 }

@@ -13,7 +13,8 @@ use crate::choices::{
     UNIT, arithmetic_operator, assign_claim, both, claimed, is_text, kept_claim, known_type,
     left_way, name_claim, right_way, sum_operator, type_in, type_or_none, value_way,
 };
-use crate::notes::{Notes, Opened, opened_tree, shut};
+use crate::notes::{Notes, Opened};
+use crate::opened::{opened_tree, shut};
 use kt_model::class_table::ClassTable;
 use kt_model::finding::Rule;
 use kt_model::kinds::KtType;
@@ -92,19 +93,19 @@ impl Notes {
     pub fn stmt(&mut self, body: &Body<'_>, s: &Stmt) -> Result<Option<KtType>, NoMemory>
         ensures { IfOk result (Judges self.old self.new (judged (typing_of body.now) Way.Unvalued self.old.locals.entries (stmt_tree (named_at body.now.uses.now) s.now))) }
     {
-        let statement = self.statement(body, s)?;
+        let statement = self.statement(body, false, s)?;
         let found = self.close(body.table, Way::Unvalued, &statement)?;
         Ok(found)
     }
 
-    /// Types the parts of a statement.
+    /// Types the parts of a statement whose value is taken, or not.
     #[cycle(typing)]
-    fn statement(&mut self, body: &Body<'_>, s: &Stmt) -> Result<Opened, NoMemory>
-        ensures { IfOk result (OpensAs (typing_of body.now) false self.old self.new (stmt_tree (named_at body.now.uses.now) s.now)) }
+    pub fn statement(&mut self, body: &Body<'_>, valued: bool, s: &Stmt) -> Result<Opened, NoMemory>
+        ensures { IfOk result (OpensAs (typing_of body.now) valued self.old self.new (stmt_tree (named_at body.now.uses.now) s.now)) }
     {
         match s {
             Stmt::Expr(e) => {
-                let expression = self.open(body, false, e)?;
+                let expression = self.open(body, valued, e)?;
                 Ok(expression)
             }
             Stmt::Local {

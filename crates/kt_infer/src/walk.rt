@@ -1,6 +1,5 @@
 //! The pass over expressions. The parts of an expression are typed before its way is known, alike in each way in which its value is taken; so the left
-//! operand of a sum is typed once, though whether it is a text decides how it is checked. Where the value is not taken, an `if` alone differs: only there
-//! it is open.
+//! operand of a sum is typed once, though whether it is a text decides how it is checked. Only what the branches of an `if` end in waits for its way.
 ghost use Rattle.std.specs.Prelude.{◌≡◌, ◌&&◌, is_some, IfOk, List, [], ◌∷◌, map, option_map, true};
 ghost use Rattle.kt_tree.specs.declared.token.Span.{Span};
 ghost use Rattle.kt_model.specs.NameUses.{named_at};
@@ -8,11 +7,13 @@ ghost use Rattle.kt_model.specs.BodyTrees.{Mark, expr_tree, name_tree, call_tree
 ghost use Rattle.kt_typing.specs.Typing as spec;
 ghost use Rattle.kt_typing.specs.Typing.{Each, judged, all_judged};
 ghost use Rattle.kt_infer.specs.Demands.{as_ways};
-ghost use Rattle.kt_infer.specs.Noting.{IsOpened, Judges, JudgesAll, Opens, OpensAs, typing_of};
+ghost use Rattle.kt_infer.specs.Noting.{Judges, JudgesAll, Opens, OpensAs, typing_of};
+ghost use Rattle.kt_infer.specs.Opening.{IsOpened};
 
 use crate::calls::{Ways, built_in_signature, demanded, function_signature};
 use crate::choices::{BOOLEAN, INT, both, is_valued, name_claim, still};
-use crate::notes::{Notes, Opened, opened_tree, shut};
+use crate::notes::{Notes, Opened};
+use crate::opened::{opened_tree, shut};
 use kt_model::finding::Rule;
 use kt_model::kinds::KtType;
 use kt_model::uses::{Body, Named};
@@ -57,9 +58,9 @@ impl Notes {
                 Ok(opened_tree(self.alloc, e.number, e.span, complete, claim))
             }
             ExprKind::Paren(a) => {
-                let mut inner = self.open(body, true, a.get())?;
-                inner.parens.push(e.number)?;
-                Ok(inner)
+                let inner = self.open(body, true, a.get())?;
+                let enclosed = inner.enclosed(e.number)?;
+                Ok(enclosed)
             }
             ExprKind::Call {
                 callee,

@@ -1,5 +1,7 @@
-use Rattle.std.proofs.Common.{◌∙◌, ◌+◌, ap, sym, refl, map, [], ◌∷◌, Some, None, arith, drop, option_map, ◌&&◌, is_some, true, false}
-use Rattle.std.proofs.lemmas.List.{drop_all}
+use Rattle.std.proofs.Common.{◌≡◌, ◌∙◌, ◌+◌, ◌++◌, length, take, ap, sym, refl, map, [], ◌∷◌, Some, None, arith, drop, option_map, ◌&&◌, is_some, true, false}
+use Rattle.std.proofs.lemmas.List.{drop_all, nil_from_length, length-take-le, get_or-take}
+use Rattle.std.proofs.Math.Seq.{take-append_seam}
+use Rattle.std.proofs.lemmas.Option.{MatchOption-at_none, MatchOption-at_some}
 use Rattle.kt_model.specs.NameUses.{named_at, declaration_type}
 use Rattle.kt_model.specs.BodyTrees.{whole, named_there, shut, expr_tree, piece, seen, seen_trees, inserted_of, texts_of, call_tree, Int', Bool', Null', Template', Sum', Arithmetic', stmt_tree, listed, assign_tree, local_tree, compound_of, assigned_tree, seen_optional, Trees, Return', branch_trees, otherwise}
 use Rattle.kt_typing.specs.Typing.{int, left_way, right_way, all_judged, Each, look_up, known_type, value_way, declared, initialised, declaration_claim, type_or_none, assign_claim, is_text, operator_of, count, compound_claim, boolean, bare_return, equality_demand, demand_if}
@@ -9,10 +11,11 @@ use Rattle.kt_model.specs.declared.finding.Rule.TheVariants.{Syntax}
 use Rattle.kt_model.proofs.BodyFolds.{tree_of_kind, kind_int, kind_bool, kind_null, kind_name, kind_template, kind_paren, kind_call, kind_call_with, kind_sign, kind_sum, kind_arithmetic, kind_compare, kind_equal, kind_not, kind_and, kind_or, kind_if_any, kind_throw, kind_other, piece_text, piece_inserted, stmt_expr, stmt_local_any, stmt_assign_any, stmt_while, stmt_do_while, stmt_for, kind_return_any, kind_return_at_any, branch_braced, branch_single, block_list}
 use Rattle.kt_infer.specs.Demands.{as_ways, ways_from}
 use Rattle.kt_infer.specs.Noting.{typing_of, by_last}
-use Rattle.kt_infer.proofs.Passing.{judges_of, same_tree, every, same_such, same_judgements, same_complete_of, one, ends, ends_in, judges_in, opened_if, same_keeps, encloses, finish_trees, begin_branch, step_branch, finish_branch, one_branch, no_branch, nothing, piece_step, stmts_more, exprs_more, pieces_more, few, same_old, same_ways}
+use Rattle.kt_infer.proofs.Passing.{judges_of, same_tree, every, same_such, same_judgements, same_complete_of, one, ends, ends_in, judges_in, opened_if, same_keeps, encloses, finish_trees, begin_branch, step_branch, finish_branch, one_branch, no_branch, nothing, piece_step, stmts_more, exprs_more, pieces_more, few, same_old, same_ways, as_valued}
+use Rattle.kt_infer.proofs.Ends.{opens_joined, last_more, last_alone, no_last, same_last, trees_behind}
 use Rattle.kt_infer.proofs.WaysFrom.{step_in_way}
 use Rattle.kt_infer.proofs.OtherNames.{no_call, no_local, no_word, no_target}
-use Rattle.kt_infer.proofs.Forms.{opens_shut, opens_leaf, opens_throw, refuses_if, opens_if, returns_bare, returns_value, opens_not, opens_and, opens_or, opens_compare, opens_equal, opens_sign, opens_parts, opens_binary, text_operator, sum_valued, opens_call, opens_built_in, opens_declare, opens_local, opens_assign, opens_compound}
+use Rattle.kt_infer.proofs.Forms.{opens_shut, opens_leaf, opens_throw, opens_if, returns_bare, returns_value, opens_not, opens_and, opens_or, opens_compare, opens_equal, opens_sign, opens_parts, opens_binary, text_operator, sum_valued, opens_call, opens_built_in, opens_declare, opens_local, opens_assign, opens_compound}
 use Rattle.kt_tree.specs.declared.ast.body.ExprKind.TheVariants as e
 use Rattle.kt_model.specs.declared.uses.Named.TheVariants as named
 use Rattle.kt_infer.proofs.notes.Notes.+typing.Goals as goal
@@ -53,11 +56,11 @@ open-returns-in_ok-complete-in-Template t c =
     (opens_parts (typing_of c.args.body.now) (whole c.args.e.now.number c.args.e.now.span) (Template' (texts_of (map (piece uses) c.in-Template.parts))) (inserted_of (map (piece uses) c.in-Template.parts)) (λ text far. refl)
     (same_judgements (ap (λ l. all_judged (typing_of c.args.body.now) (Each Inferred) c.args.self.now.locals.entries (inserted_of (map (piece uses) l))) (sym c.as_slice.ensures)) c.in_ok-complete-in-Template.ensures) c.opened_tree.ensures)
 
-pub open-returns-in_ok-push-in-Paren : goal.open-returns-in_ok-push-in-Paren
-open-returns-in_ok-push-in-Paren t c =
+pub open-returns-in_ok-enclosed-in-Paren : goal.open-returns-in_ok-enclosed-in-Paren
+open-returns-in_ok-enclosed-in-Paren t c =
     let uses = named_at c.args.body.now.uses.now in
     every c.args.valued (tree_of_kind uses c.args.e.now _ _ c.in-Paren.is (kind_paren uses c.in-Paren.a))
-    (encloses (whole c.args.e.now.number c.args.e.now.span) (same_such (ap (expr_tree uses) (sym c.get.ensures)) c.in_ok-inner-in-Paren.ensures) refl refl refl refl c.in_ok-push-in-Paren.ensures.items)
+    (encloses (whole c.args.e.now.number c.args.e.now.span) (same_such (ap (expr_tree uses) (sym c.get.ensures)) c.in_ok-inner-in-Paren.ensures) refl c.in_ok-enclosed-in-Paren.ensures)
 
 pub open-returns-in_ok-call-in-None : goal.open-returns-in_ok-call-in-None
 open-returns-in_ok-call-in-None t c =
@@ -186,9 +189,82 @@ operation-returns-in_ok-right-in-Arithmetic t c h =
 
 pub choice-returns-then-valued : goal.choice-returns-then-valued
 choice-returns-then-valued t c h k j =
+    as_valued (sym c.if-valued.true) (c.in_ok-joined-in-If.ensures _ _ _ c.in-If.is)
+
+pub joining-returns-in_ok-opened-in-If : goal.joining-returns-in_ok-opened-in-If
+joining-returns-in_ok-opened-in-If t c d x y is =
     let uses = named_at c.args.body.now.uses.now in
     same_such (tree_of_kind uses c.args.e.now _ _ c.in-If.is (kind_if_any uses c.in-If.condition c.in-If.then c.in-If.otherwise))
-    (refuses_if (typing_of c.args.body.now) c.args.self.now (whole c.args.e.now.number c.args.e.now.span) _ _ _ c.if-valued.true c.shut.ensures)
+    (opens_joined (typing_of c.args.body.now) c.args.e.now.number c.args.e.now.span (expr_tree uses c.in-If.condition) (branch_trees uses c.in-If.then) (otherwise (option_map (branch_trees uses) c.in-If.otherwise))
+    (judges_of (typing_of c.args.body.now) uses (Checked boolean) c.get.ensures c.in_ok-typed-in-If.ensures)
+    (same_last (ap (branch_trees uses) (sym c.get-in-If.ensures)) c.in_ok-first-in-If.ensures) c.exchange-before.ensures c.nothing_between-nothing.ensures.rows c.nothing_between-nothing.ensures.findings
+    c.in_ok-second-in-If.ensures c.exchange-between.ensures c.is_some-complete.ensures c.in_ok-opened-in-If.ensures)
+
+pub joining-returns-in_default : goal.joining-returns-in_default
+joining-returns-in_default t c d x y is = absurd (c.in_default.not-If d x y is)
+
+pub ending-returns-in_ok-last-in-Braced : goal.ending-returns-in_ok-last-in-Braced
+ending-returns-in_ok-last-in-Braced t c =
+    let uses = named_at c.args.body.now.uses.now in
+    same_last (ap (branch_trees uses) c.in-Braced.is ∙ branch_braced uses _ ∙ block_list uses _ ∙ ap (λ l. listed (map (stmt_tree uses) l)) (sym c.as_slice.ensures)) c.in_ok-last-in-Braced.ensures
+
+pub ending-returns-in_ok-last-in-Single : goal.ending-returns-in_ok-last-in-Single
+ending-returns-in_ok-last-in-Single t c =
+    let uses = named_at c.args.body.now.uses.now in
+    same_last (ap (branch_trees uses) c.in-Single.is ∙ branch_single uses _) (last_alone (typing_of c.args.body.now) (stmt_tree uses c.in-Single.s) c.in_ok-last-in-Single.ensures)
+
+pub other_ending-returns-in_ok-last-in-Some : goal.other_ending-returns-in_ok-last-in-Some
+other_ending-returns-in_ok-last-in-Some t c =
+    let uses = named_at c.args.body.now.uses.now in
+    same_last (ap (λ w. otherwise (option_map (branch_trees uses) w)) c.in-Some.is ∙ ap (branch_trees uses) (sym c.get.ensures)) c.in_ok-last-in-Some.ensures
+
+pub other_ending-returns-in-None : goal.other_ending-returns-in-None
+other_ending-returns-in-None t c =
+    let uses = named_at c.args.body.now.uses.now in
+    same_last (ap (λ w. otherwise (option_map (branch_trees uses) w)) c.in-None.is) (no_last (typing_of c.args.body.now) c.args.self.now)
+
+pub last-returns-in-None : goal.last-returns-in-None
+last-returns-in-None t c =
+    let uses = named_at c.args.body.now.uses.now in
+    same_last (ap (λ l. listed (map (stmt_tree uses) l)) (nil_from_length c.args.statements.now (MatchOption-at_none _ _ c.in-None.is c.split_last.ensures.cases))) (no_last (typing_of c.args.body.now) c.args.self.now)
+
+pub last-returns-in_ok-last-in-Some : goal.last-returns-in_ok-last-in-Some
+last-returns-in_ok-last-in-Some t c =
+    let uses = named_at c.args.body.now.uses.now in
+    let cx = typing_of c.args.body.now in
+    let xs = c.args.statements.now in
+    let before = c.in-Some.before.now in
+    let s = c.in-Some.s.now in
+    let is : xs ≡ before ++ s ∷ [] = c.in-Some.ensures.cases.0 in
+    let front : take (length before) xs ≡ before = ap (take (length before)) is ∙ take-append_seam before (s ∷ []) in
+    same_last (ap (λ l. listed (map (stmt_tree uses) l)) is ∙ ap listed (trees_behind uses before s))
+    (last_more cx (map (stmt_tree uses) before) (stmt_tree uses s)
+    (same_judgements (ap (λ l. by_last (all_judged cx (Each Unvalued) c.args.self.now.locals.entries (listed (map (stmt_tree uses) l)))) (sym front)) c.in_ok-leading-in-Some.ensures)
+    c.in_ok-last-in-Some.ensures)
+
+pub leading-loop-place-init : goal.leading-loop-place-init
+leading-loop-place-init t c = begin_branch c.args.self.now _
+
+pub leading-loop-place-preserved : goal.leading-loop-place-preserved
+leading-loop-place-preserved t c =
+    let uses = named_at c.args.body.now.uses.now in
+    let cx = typing_of c.args.body.now in
+    let xs = take c.args.count c.args.statements.now in
+    let i = c.loop-place.place in
+    let x = c.index-statements-place.result in
+    let long : length xs ≡ c.args.count = length-take-le c.args.count c.args.statements.now c.requires in
+    step_branch cx (stmt_tree uses x) (listed (map (stmt_tree uses) (drop (i + 1) xs)))
+    (ap (all_judged cx (Each Unvalued) c.loop-place.self.locals.entries)
+    (stmts_more uses xs (i + 1) i x (omega arith) (omega arith) (c.index-statements-place.is ∙ sym (get_or-take c.args.count c.args.statements.now i x (omega arith)))))
+    c.loop-place.invariant c.in_ok-found.ensures c.is_some-complete.ensures
+
+pub leading-returns : goal.leading-returns
+leading-returns t c =
+    let uses = named_at c.args.body.now.uses.now in
+    let cx = typing_of c.args.body.now in
+    let xs = take c.args.count c.args.statements.now in
+    let long : length xs ≡ c.args.count = length-take-le c.args.count c.args.statements.now c.requires in
+    finish_branch cx (ap (λ l. all_judged cx (Each Unvalued) c.loop-place.self.locals.entries (listed (map (stmt_tree uses) l))) (drop_all c.loop-place.place xs (omega arith))) c.loop-place.invariant
 
 pub choice-returns-in_ok-second-in-If : goal.choice-returns-in_ok-second-in-If
 choice-returns-in_ok-second-in-If t c h k j =
@@ -209,7 +285,7 @@ pub choice-returns-in-Some : goal.choice-returns-in-Some
 choice-returns-in-Some t c h k j =
     let uses = named_at c.args.body.now.uses.now in
     every c.args.valued (tree_of_kind uses c.args.e.now _ _ (c.in-Return.is ∙ ap (λ l. e.Return l c.in-Return.value) c.in-Some.is) (kind_return_at_any uses _ c.in-Return.value))
-    (opens_shut (typing_of c.args.body.now) c.args.self.now (whole c.args.e.now.number c.args.e.now.span) c.shut-in-Some.ensures)
+    (opens_shut (typing_of c.args.body.now) c.args.self.now (whole c.args.e.now.number c.args.e.now.span) c.shut.ensures)
 
 pub call-returns-in_ok-complete-in-Function : goal.call-returns-in_ok-complete-in-Function
 call-returns-in_ok-complete-in-Function t c =
@@ -356,28 +432,28 @@ statement-returns-in_ok-expression-in-Expr t c =
 
 pub statement-returns-in_ok-local-in-Local : goal.statement-returns-in_ok-local-in-Local
 statement-returns-in_ok-local-in-Local t c =
-    let uses = named_at c.args.body.now.uses.now in every false (ap (stmt_tree uses) c.in-Local.is ∙ stmt_local_any uses _ _ _ _ _ _) c.in_ok-local-in-Local.ensures
+    let uses = named_at c.args.body.now.uses.now in every c.args.valued (ap (stmt_tree uses) c.in-Local.is ∙ stmt_local_any uses _ _ _ _ _ _) c.in_ok-local-in-Local.ensures
 
 pub statement-returns-in_ok-assigned-in-Assign : goal.statement-returns-in_ok-assigned-in-Assign
 statement-returns-in_ok-assigned-in-Assign t c =
     let uses = named_at c.args.body.now.uses.now in
-    every false (ap (stmt_tree uses) c.in-Assign.is ∙ stmt_assign_any uses _ _ _ _ _
+    every c.args.valued (ap (stmt_tree uses) c.in-Assign.is ∙ stmt_assign_any uses _ _ _ _ _
     ∙ ap (λ w. assign_tree (uses c.in-Assign.number) c.in-Assign.number c.in-Assign.span w c.in-Assign.assignment (option_map (seen uses) c.in-Assign.value)) (c.name_of-word.ensures uses)) c.in_ok-assigned-in-Assign.ensures
 
 pub statement-returns-in-While : goal.statement-returns-in-While
 statement-returns-in-While t c =
     let uses = named_at c.args.body.now.uses.now in
-    every false (ap (stmt_tree uses) c.in-While.is ∙ stmt_while uses _ _ _ _) (opens_shut (typing_of c.args.body.now) c.args.self.now (whole c.in-While.number c.in-While.span) c.shut.ensures)
+    every c.args.valued (ap (stmt_tree uses) c.in-While.is ∙ stmt_while uses _ _ _ _) (opens_shut (typing_of c.args.body.now) c.args.self.now (whole c.in-While.number c.in-While.span) c.shut.ensures)
 
 pub statement-returns-in-DoWhile : goal.statement-returns-in-DoWhile
 statement-returns-in-DoWhile t c =
     let uses = named_at c.args.body.now.uses.now in
-    every false (ap (stmt_tree uses) c.in-DoWhile.is ∙ stmt_do_while uses _ _ _ _) (opens_shut (typing_of c.args.body.now) c.args.self.now (whole c.in-DoWhile.number c.in-DoWhile.span) c.shut-in-DoWhile.ensures)
+    every c.args.valued (ap (stmt_tree uses) c.in-DoWhile.is ∙ stmt_do_while uses _ _ _ _) (opens_shut (typing_of c.args.body.now) c.args.self.now (whole c.in-DoWhile.number c.in-DoWhile.span) c.shut-in-DoWhile.ensures)
 
 pub statement-returns-in-For : goal.statement-returns-in-For
 statement-returns-in-For t c =
     let uses = named_at c.args.body.now.uses.now in
-    every false (ap (stmt_tree uses) c.in-For.is ∙ stmt_for uses _ _ _ _ _ _ _ _) (opens_shut (typing_of c.args.body.now) c.args.self.now (whole c.in-For.number c.in-For.span) c.shut-in-For.ensures)
+    every c.args.valued (ap (stmt_tree uses) c.in-For.is ∙ stmt_for uses _ _ _ _ _ _ _ _) (opens_shut (typing_of c.args.body.now) c.args.self.now (whole c.in-For.number c.in-For.span) c.shut-in-For.ensures)
 
 pub local-returns-in_ok-declare-in-None : goal.local-returns-in_ok-declare-in-None
 local-returns-in_ok-declare-in-None t c =

@@ -1,4 +1,4 @@
-use Rattle.std.proofs.Common.{map, drop}
+use Rattle.std.proofs.Common.{map, drop, take}
 use Rattle.kt_model.specs.NameUses.{named_at}
 use Rattle.kt_model.specs.BodyTrees.{stmt_tree, listed, seen, seen_trees, piece, inserted_of}
 use Rattle.kt_typing.specs.Typing.{Each, all_judged}
@@ -25,3 +25,9 @@ invariant-statements-loop-s l =
     let uses = named_at l.body.uses.now in
     ContinuesBranch l.fn.self l.self (all_judged (typing_of l.body) (Each Unvalued) l.fn.self.locals.entries (listed (map (stmt_tree uses) l.statements)))
     (all_judged (typing_of l.body) (Each Unvalued) l.self.locals.entries (listed (map (stmt_tree uses) (drop l.s-index l.statements)))) l.complete
+
+abbrev pub invariant-leading-loop-place : goal.invariant-leading-loop-place
+invariant-leading-loop-place l =
+    let uses = named_at l.body.uses.now in
+    ContinuesBranch l.fn.self l.self (all_judged (typing_of l.body) (Each Unvalued) l.fn.self.locals.entries (listed (map (stmt_tree uses) (take l.count l.statements))))
+    (all_judged (typing_of l.body) (Each Unvalued) l.self.locals.entries (listed (map (stmt_tree uses) (drop l.place (take l.count l.statements))))) l.complete

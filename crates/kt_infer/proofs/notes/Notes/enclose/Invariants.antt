@@ -1,5 +1,5 @@
 use Rattle.std.proofs.Common.{◌≡◌, ◌++◌, take}
-use Rattle.kt_infer.specs.Noting.{rows_of}
+use Rattle.kt_infer.specs.Opening.{rows_of}
 use Rattle.kt_infer.proofs.notes.Notes.enclose.Given as goal
 
 abbrev pub invariant-loop-tree : goal.invariant-loop-tree
