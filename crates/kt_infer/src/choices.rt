@@ -158,10 +158,8 @@ pub fn arithmetic_operator(operator: Arithmetic) -> Option<Operator>
     ensures { (text : Bool) → spec.operator_of (body.Arithmetic' operator) text ≡ result }
 {
     match operator {
-        Arithmetic::Subtract
-        | Arithmetic::Multiply
-        | Arithmetic::Divide
-        | Arithmetic::Remainder => Some(sum_operator(false)),
+        Arithmetic::Subtract | Arithmetic::Multiply | Arithmetic::Divide | Arithmetic::Remainder =>
+            Some(sum_operator(false)),
     }
 }
 

@@ -36,7 +36,7 @@ use Rattle.kt_model.specs.DeclarationRules.{where_}
 use Rattle.kt_model.specs.declared.finding.Finding.{Finding}
 use Rattle.kt_model.specs.declared.finding.Rule.TheVariants.{AssignTarget, NoElse, ValueExpected}
 use Rattle.kt_shape.specs.ShapeRules.{ByUse, KindShape, ExprShape, StmtShape, CaseShape, taken, taken_if, each_taken, given_if, whole_if, joined, joined_if, in_turn, inner, target_if, is_dot, branch_step, condition_step, kind_step, stmt_step, piece_step, block_step, catch_step, expr_step, lambda_step, subject_step, when_branch_step, expr_shape, kind_shape, stmt_shape, block_shape, branch_shape, piece_shape, condition_shape, catch_shape, lambda_shape, subject_shape, case_shape, in_part}
-use Rattle.kt_shape.specs.Operations.{is_operator, in_operation}
+use Rattle.kt_shape.specs.Operations.{is_operation, in_operation}
 
 abbrev Layer : Type 0
 Layer = ExprKind-F Branch Condition ExprKind Stmt StringPart Block Catch Expr Lambda Subject WhenBranch
@@ -61,9 +61,9 @@ any_through g f (x ∷ xs) = ap (λ rest. g (f x) || rest) (any_through g f xs)
 
 -- ---- operations
 
-operation_at : (layer : Layer) → in_operation (v.roll-ExprKind layer) ≡ (if is_operator layer then (kind_shape (v.roll-ExprKind layer)).inside true else [])
+operation_at : (layer : Layer) → in_operation (v.roll-ExprKind layer) ≡ (if is_operation layer then (kind_shape (v.roll-ExprKind layer)).inside true else [])
 unfolding in_operation
-operation_at layer = ap (λ l. if is_operator l then (kind_shape (v.roll-ExprKind layer)).inside true else []) (v.out-roll-ExprKind layer)
+operation_at layer = ap (λ l. if is_operation l then (kind_shape (v.roll-ExprKind layer)).inside true else []) (v.out-roll-ExprKind layer)
 
 pub operation_int : (k : ℕ) → in_operation (e.Int k) ≡ []
 unfolding expr_shape kind_shape stmt_shape block_shape branch_shape piece_shape condition_shape catch_shape lambda_shape subject_shape case_shape

@@ -1,5 +1,5 @@
-//! The rules on the shapes of trees: what stands on left sides, and what an `if` or a `when` whose value is taken lacks. Below stand the trees and the written rules; above stands what checks a whole source.
-//! Its public contract is that of `shapes`: nothing is violated, or exactly what is.
+//! The rules on the shapes of trees: what stands on left sides, which `if`s and `when`s need an `else`, and which branches need a value. Below stand the trees
+//! and the written rules; above stands what checks a whole source. Its public contract is that of `shapes`: nothing is violated, or exactly what is.
 #![tactic(auto)]
 
 mod declarations;

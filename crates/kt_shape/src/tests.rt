@@ -158,7 +158,7 @@ fn others_are_found_in_order(rt: HostRuntime) -> Result<(), Fail> {
 }
 
 #[test]
-fn an_else_lacks_nowhere(rt: HostRuntime) -> Result<(), Fail> {
+fn no_else_is_missing(rt: HostRuntime) -> Result<(), Fail> {
     let alloc = rt.alloc();
     let mut statements = Items::new(alloc);
     statements.push(local(choice(alloc, 2, digit(3), Some(digit(4)))?))?;
@@ -171,7 +171,7 @@ fn an_else_lacks_nowhere(rt: HostRuntime) -> Result<(), Fail> {
 }
 
 #[test]
-fn a_value_lacks(rt: HostRuntime) -> Result<(), Fail> {
+fn missing_elses_and_values_are_found(rt: HostRuntime) -> Result<(), Fail> {
     let alloc = rt.alloc();
     let mut statements = Items::new(alloc);
     statements.push(local(choice(alloc, 2, digit(3), None)?))?;

@@ -158,11 +158,7 @@ fn in_lambda_if(held: &Option<Boxed<Lambda>>, out: &mut Found) -> Result<(), NoM
 }
 
 #[cycle(shapes)]
-fn in_branch_if(
-    held: &Option<Boxed<Branch>>,
-    valued: bool,
-    out: &mut Found,
-) -> Result<(), NoMemory>
+fn in_branch_if(held: &Option<Boxed<Branch>>, valued: bool, out: &mut Found) -> Result<(), NoMemory>
     ensures { OnOk result (out.new.items ≡ out.old.items ++ whole_if (option_map branch_shape held.now) valued) }
 {
     match held {
@@ -223,11 +219,7 @@ fn in_stmts(statements: &[Stmt], valued: bool, out: &mut Found) -> Result<(), No
 }
 
 #[cycle(shapes)]
-fn in_when_branches(
-    branches: &[WhenBranch],
-    valued: bool,
-    out: &mut Found,
-) -> Result<(), NoMemory>
+fn in_when_branches(branches: &[WhenBranch], valued: bool, out: &mut Found) -> Result<(), NoMemory>
     ensures { OnOk result (out.new.items ≡ out.old.items ++ flat_map (λ b. (case_shape b).whole valued) branches.now) }
 {
     for x in branches {
@@ -377,6 +369,11 @@ fn in_stmt(s: &Stmt, valued: bool, out: &mut Found) -> Result<(), NoMemory>
 fn in_left(target: &Expr, out: &mut Found) -> Result<(), NoMemory>
     ensures { OnOk result (out.new.items ≡ out.old.items ++ (where_ (not (expr_shape target.now).is_target) AssignTarget (expr_shape target.now).span ++ (expr_shape target.now).whole false)) }
 {
-    push_if(!is_target(&target.kind), Rule::AssignTarget, target.span, out)?;
+    push_if(
+        !is_target(&target.kind),
+        Rule::AssignTarget,
+        target.span,
+        out,
+    )?;
     in_expr(target, false, out)
 }

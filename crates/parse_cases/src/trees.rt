@@ -82,7 +82,8 @@ fn operands(kind: &ExprKind, out: &mut Writer) -> Written {
         | ExprKind::Is(inner, _)
         | ExprKind::IsNot(inner, _)
         | ExprKind::Member {
-            receiver: inner, ..
+            receiver: inner,
+            ..
         } => expr(inner.get(), out),
         ExprKind::Return { value, .. } => match value {
             Some(value) => expr(value.get(), out),

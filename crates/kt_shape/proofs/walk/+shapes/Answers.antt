@@ -176,8 +176,9 @@ pub in_expr-returns : goal.in_expr-returns
 in_expr-returns t c =
     let kind = kind_shape c.args.e.now.kind in
     let e : c.if-valued.push_if ≡ (c.args.valued && kind.lacks_else) = elim c.if-valued.branch [
-        in_expr-then-valued w ↦ w.push_if-is ∙ w.lacks_else.ensures ∙ ap (λ v. v && kind.lacks_else) (sym w.if-valued.true)
-      | in_expr-else-valued w ↦ w.push_if-is ∙ w.if-valued.false ∙ ap (λ v. v && kind.lacks_else) (sym w.if-valued.false) ] in
+      | in_expr-then-valued w ↦ w.push_if-is ∙ w.lacks_else.ensures ∙ ap (λ v. v && kind.lacks_else) (sym w.if-valued.true)
+      | in_expr-else-valued w ↦ w.push_if-is ∙ w.if-valued.false ∙ ap (λ v. v && kind.lacks_else) (sym w.if-valued.false)
+    ] in
     put_both c.in_kind.result _ _ c.push_if.new.out.items _ _ (fold.expr_whole c.args.e.now c.args.valued ∙ ap (λ lacks. where_ lacks NoElse c.args.e.now.span ++ kind.inside c.args.valued) (sym e)) c.in_ok-push_if.ensures c.in_kind.ensures
 
 pub in_left-returns : goal.in_left-returns
@@ -189,8 +190,9 @@ pub in_branch-returns-in_ok-push_if-in-Single : goal.in_branch-returns-in_ok-pus
 in_branch-returns-in_ok-push_if-in-Single t c =
     let s = stmt_shape c.in-Single.s in
     let e : c.if-valued.push_if ≡ (c.args.valued && not s.is_value) = elim c.if-valued.branch [
-        in_branch-then-valued w ↦ w.push_if-is ∙ ap not w.is_value.ensures ∙ ap (λ v. v && not s.is_value) (sym w.if-valued.true)
-      | in_branch-else-valued w ↦ w.push_if-is ∙ w.if-valued.false ∙ ap (λ v. v && not s.is_value) (sym w.if-valued.false) ] in
+      | in_branch-then-valued w ↦ w.push_if-is ∙ ap not w.is_value.ensures ∙ ap (λ v. v && not s.is_value) (sym w.if-valued.true)
+      | in_branch-else-valued w ↦ w.push_if-is ∙ w.if-valued.false ∙ ap (λ v. v && not s.is_value) (sym w.if-valued.false)
+    ] in
     put_both c.in_stmt.result _ _ c.push_if.new.out.items _ _ (ap (λ b. branch_shape b c.args.valued) c.in-Single.is ∙ ap (λ (f : ByUse). f c.args.valued) (fold.branch_single _) ∙ ap (λ lacks. where_ lacks ValueExpected s.span ++ s.whole c.args.valued) (sym e) ∙ ap (λ span. where_ c.if-valued.push_if ValueExpected span ++ s.whole c.args.valued) (sym c.span_of.ensures)) c.in_ok-push_if-in-Single.ensures c.in_stmt.ensures
 
 pub in_stmts-loop-place-preserved : goal.in_stmts-loop-place-preserved
@@ -200,8 +202,9 @@ in_stmts-loop-place-preserved t c =
     let is_last = c.loop-place.place + 1 == length ss in
     let rest = in_turn (map stmt_shape (drop (c.loop-place.place + 1) ss)) c.args.valued in
     let e : c.if-valued.in_stmt ≡ (c.args.valued && is_last) = elim c.if-valued.branch [
-        in_stmts-then-valued w ↦ w.in_stmt-is ∙ ap (λ v. v && is_last) (sym w.if-valued.true)
-      | in_stmts-else-valued w ↦ w.in_stmt-is ∙ w.if-valued.false ∙ ap (λ v. v && is_last) (sym w.if-valued.false) ] in
+      | in_stmts-then-valued w ↦ w.in_stmt-is ∙ ap (λ v. v && is_last) (sym w.if-valued.true)
+      | in_stmts-else-valued w ↦ w.in_stmt-is ∙ w.if-valued.false ∙ ap (λ v. v && is_last) (sym w.if-valued.false)
+    ] in
     ap (λ out. out ++ rest) c.in_ok-in_stmt.ensures
     ∙ append_assoc c.loop-place.out.items ((stmt_shape x).whole c.if-valued.in_stmt) rest
     ∙ ap (λ z. c.loop-place.out.items ++ z) (ap (λ last. (stmt_shape x).whole last ++ rest) e ∙ sym (fold.turn_at ss c.loop-place.place x c.args.valued (omega arith) c.index-statements-place.is))
