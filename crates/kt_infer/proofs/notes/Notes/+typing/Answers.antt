@@ -182,7 +182,7 @@ operation-returns-in_ok-right-in-Arithmetic t c h =
     let n = whole c.args.e.now.number c.args.e.now.span in
     every c.args.valued (tree_of_kind uses c.args.e.now _ _ c.in-Arithmetic.is (kind_arithmetic uses c.in-Arithmetic.o c.in-Arithmetic.a c.in-Arithmetic.b))
     (opens_binary (typing_of c.args.body.now) n (Arithmetic' c.in-Arithmetic.o) c.arithmetic_operator-operator.result (expr_tree uses c.in-Arithmetic.a) (expr_tree uses c.in-Arithmetic.b) (λ text far. refl)
-    (c.arithmetic_operator-operator.ensures _)
+    (c.arithmetic_operator-operator.ensures false)
     (judges_in (typing_of c.args.body.now) (expr_tree uses c.in-Arithmetic.a) (left_way c.arithmetic_operator-operator.result) c.left_way-in-Arithmetic.ensures (judges_of (typing_of c.args.body.now) uses _ c.get-in-Arithmetic.ensures c.in_ok-left-in-Arithmetic.ensures))
     (judges_in (typing_of c.args.body.now) (expr_tree uses c.in-Arithmetic.b) (right_way c.arithmetic_operator-operator.result) c.right_way-in-Arithmetic.ensures (judges_of (typing_of c.args.body.now) uses _ c.get-in-Arithmetic-2.ensures c.in_ok-right-in-Arithmetic.ensures))
     (c.binary-in-Arithmetic.ensures n refl refl))
