@@ -93,7 +93,7 @@ fn of_resolved(
     let names = LocalNames::of(alloc, file, uses)?;
     let mut out = String::new(alloc);
     write_graph(alloc, &mut out, question, &names, &body, trees)?;
-    let found = flow(alloc, &body)?;
+    let found = flow(alloc, &body)?.findings;
     write_findings(&mut out, found.as_slice(), trees)?;
     Ok(out)
 }

@@ -113,7 +113,7 @@ fn found_in(alloc: Global, body: &Body<'_>) -> Result<Option<Found>> {
     }
     let init = analyse(alloc, &graph)?;
     let dead = init.dead(alloc, &graph, body)?;
-    let findings = flow(alloc, body)?;
+    let findings = flow(alloc, body)?.findings;
     Ok(Some(Found {
         nodes: graph.nodes.len(),
         edges: graph.edges.len(),

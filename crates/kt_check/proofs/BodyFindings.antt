@@ -6,12 +6,13 @@ use Rattle.kt_tree.specs.declared.ast.declaration.File.{File}
 use Rattle.kt_model.specs.Bodies.{owner_parameters, owner_trees, IsTooLarge}
 use Rattle.kt_model.specs.ControlFlow.{body_nodes}
 use Rattle.kt_model.specs.Findings.{AreFindings}
-use Rattle.kt_paths.specs.FlowRules.{IsSizeViolated, too_large, SettlesEntered}
+use Rattle.kt_paths.specs.FlowRules.{IsSizeViolated, too_large}
 use Rattle.kt_model.specs.NameUses.{Resolved}
 use Rattle.kt_model.specs.declared.finding.Finding.{Finding}
 use Rattle.kt_model.specs.declared.uses.Owner.TheVariants as owner
 use Rattle.kt_sound.proofs.DeadOfFile.{got}
 use Rattle.kt_check.specs.Phases.{IsViolatedBefore, AreBefore, AddsBody}
+use Rattle.kt_check.specs.Verdicts.{IsBodySettled}
 use Rattle.kt_check.specs.Violations.{IsBodyViolated}
 
 -- no body is too large where no limit is passed
@@ -23,7 +24,7 @@ pub none_before : (file : File) (uses : Resolved) → AreBefore file uses 0 []
 none_before file uses = record {
   only = λ f h. absurd (omega (arith, h.1));
   all = λ f v. absurd (omega (arith, v.before));
-  entered = λ place below. absurd (omega arith);
+  settled = λ place below. absurd (omega arith);
 }
 
 -- one body more
@@ -38,10 +39,10 @@ one_more file uses n old new before adds = record {
     | inr from ↦ (let b = v.before in let same : v.place ≡ n = omega arith in
         Contains-append_right old (adds.typing ++ adds.flow) f (found f (subst (λ p. IsBodyViolated file uses p f) same v.violated)))
   ]);
-  entered = λ place below. elim (cases_lt place n) [
-    | inl less ↦ before.entered place less
+  settled = λ place below. elim (cases_lt place n) [
+    | inl less ↦ before.settled place less
     | inr from ↦ (let same : n ≡ place = omega arith in
-        subst (λ p. SettlesEntered (owner_parameters uses (owner.Function p)) (owner_trees file uses (owner.Function p))) same adds.entered)
+        subst (λ p. IsBodySettled file uses p) same adds.settled)
   ];
 }
   where

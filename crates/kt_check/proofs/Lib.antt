@@ -3,3 +3,4 @@ pub mod FilePhases
 pub mod BodyFindings
 pub mod OneVerdict
 pub mod MainFound
+pub mod LeftTrees

@@ -1,9 +1,8 @@
 -- What the phases of a file have found: private words of this crate.
 use Rattle.std.specs.Prelude.{◌≡◌, ◌≢◌, ℕ, ◌<◌, List, [], ◌++◌, length, Contains}
 use Rattle.kt_tree.specs.declared.ast.declaration.File.{File}
-use Rattle.kt_model.specs.Bodies.{owner_parameters, owner_trees}
 use Rattle.kt_model.specs.Findings.{AreFindings}
-use Rattle.kt_paths.specs.FlowRules.{IsPathViolated, SettlesEntered}
+use Rattle.kt_paths.specs.FlowRules.{IsPathViolated}
 use Rattle.kt_model.specs.NameUses.{Resolved}
 use Rattle.kt_model.specs.Scopes.{IsResolved}
 use Rattle.kt_typing.specs.Typing.{IsTypingFinding}
@@ -12,6 +11,7 @@ use Rattle.kt_model.specs.declared.finding.PhaseFault.{PhaseFault}
 use Rattle.kt_model.specs.declared.finding.PhaseFault.TheVariants.{Findings, NoMemory}
 use Rattle.kt_model.specs.declared.uses.Owner.TheVariants as owner
 use Rattle.kt_sound.specs.FileSoundness.{file_classes}
+use Rattle.kt_check.specs.Verdicts.{IsBodySettled}
 use Rattle.kt_check.specs.Violations.{IsBodyViolated, IsFileViolated}
 
 -- No rule of a phase before this one is violated.
@@ -30,11 +30,11 @@ abbrev pub Stops : File → PhaseFault → Type 0
 Stops file (Findings found) = AreFirst file found
 Stops file NoMemory = Unit {0}
 
--- No rule of any phase of the file is violated, these are the uses of its names, and it is settled for each body which of its trees are entered.
+-- No rule of any phase of the file is violated, these are the uses of its names, and each body is settled.
 pub record IsClear (file : File) (uses : Resolved) : Type 0 where
   pub resolved : IsResolved file uses
   pub none : (p : ℕ) (f : Finding) → IsFileViolated file p f → ⊥
-  pub entered : (place : ℕ) → place < length file.functions → SettlesEntered (owner_parameters uses (owner.Function place)) (owner_trees file uses (owner.Function place))
+  pub settled : (place : ℕ) → place < length file.functions → IsBodySettled file uses place
 
 -- A rule is violated in one of the bodies before this place.
 pub record IsViolatedBefore (file : File) (uses : Resolved) (end : ℕ) (f : Finding) : Type 0 where
@@ -42,11 +42,11 @@ pub record IsViolatedBefore (file : File) (uses : Resolved) (end : ℕ) (f : Fin
   pub before : place < end
   pub violated : IsBodyViolated file uses place f
 
--- exactly what is violated in the bodies before this place, in any order; and which of their trees are entered
+-- exactly what is violated in the bodies before this place, in any order; and they are settled
 pub record AreBefore (file : File) (uses : Resolved) (end : ℕ) (found : List Finding) : Type 0 where
   pub only : (f : Finding) → Contains found f → IsViolatedBefore file uses end f
   pub all : (f : Finding) → IsViolatedBefore file uses end f → Contains found f
-  pub entered : (place : ℕ) → place < end → SettlesEntered (owner_parameters uses (owner.Function place)) (owner_trees file uses (owner.Function place))
+  pub settled : (place : ℕ) → place < end → IsBodySettled file uses place
 
 -- a list has what it had, and behind it what is violated in the body at this place
 pub record AddsBody (file : File) (uses : Resolved) (place : ℕ) (old new : List Finding) : Type 0 where
@@ -55,4 +55,4 @@ pub record AddsBody (file : File) (uses : Resolved) (place : ℕ) (old new : Lis
   pub is : new ≡ old ++ (typing ++ flow)
   pub typed : AreFindings (IsTypingFinding file (file_classes file) uses (owner.Function place)) typing
   pub flows : AreFindings (IsPathViolated file uses (owner.Function place)) flow
-  pub entered : SettlesEntered (owner_parameters uses (owner.Function place)) (owner_trees file uses (owner.Function place))
+  pub settled : IsBodySettled file uses place

@@ -5,10 +5,11 @@ ghost use Rattle.kt_model.specs.Bodies.{IsTooLarge, owner_parameters, owner_tree
 ghost use Rattle.kt_model.specs.Classes.{outlines};
 ghost use Rattle.kt_model.specs.ControlFlow.{body_nodes};
 ghost use Rattle.kt_model.specs.Findings.{AreFindings, IsFault};
-ghost use Rattle.kt_paths.specs.FlowRules.{IsSizeViolated, SettlesEntered};
+ghost use Rattle.kt_paths.specs.FlowRules.{IsSizeViolated};
 ghost use Rattle.kt_model.specs.Outlines.{outlines_of};
 ghost use Rattle.kt_model.specs.declared.uses.Owner.TheVariants as owner;
 ghost use Rattle.kt_check.specs.Phases.{AddsBody, AreBefore, IsViolatedBefore};
+ghost use Rattle.kt_check.specs.Verdicts.{IsBodySettled};
 
 use kt_flow::flow;
 use kt_infer::type_body;
@@ -38,10 +39,10 @@ fn at_body(
         uses,
         owner: Owner::Function(place),
     };
-    let typed = type_body(alloc, &body)?;
     let along_paths = flow(alloc, &body)?;
+    let typed = type_body(alloc, &body, along_paths.left.as_slice())?;
     found.extend_from_slice(typed.findings.as_slice())?;
-    found.extend_from_slice(along_paths.as_slice())?;
+    found.extend_from_slice(along_paths.findings.as_slice())?;
     Ok(())
 }
 
@@ -55,7 +56,7 @@ fn all_bodies(
     requires table { outlines table.now ≡ outlines_of file.now }
     requires sized { (f : Finding) → IsSizeViolated file.now uses.now (length table.now) f → ⊥ }
     ensures found { IfOk result (AreFindings (IsViolatedBefore file.now uses.now (length file.now.functions))) }
-    ensures entered { IfOk result (λ _. (place : ℕ) → place < length file.now.functions → SettlesEntered (owner_parameters uses.now (owner.Function place)) (owner_trees file.now uses.now (owner.Function place))) }
+    ensures settled { IfOk result (λ _. (place : ℕ) → place < length file.now.functions → IsBodySettled file.now uses.now place) }
 {
     let Ok(count) = u32::try_from(file.functions.len()) else {
         return Err(NoMemory);
@@ -78,7 +79,7 @@ pub(crate) fn bodies(
     requires table { outlines table.now ≡ outlines_of file.now }
     requires sized { (f : Finding) → IsSizeViolated file.now uses.now (length table.now) f → ⊥ }
     ensures accepted { IfOk result (λ _. (f : Finding) → IsViolatedBefore file.now uses.now (length file.now.functions) f → ⊥) }
-    ensures entered { IfOk result (λ _. (place : ℕ) → place < length file.now.functions → SettlesEntered (owner_parameters uses.now (owner.Function place)) (owner_trees file.now uses.now (owner.Function place))) }
+    ensures settled { IfOk result (λ _. (place : ℕ) → place < length file.now.functions → IsBodySettled file.now uses.now place) }
     ensures fault { IfErr result (IsFault (IsViolatedBefore file.now uses.now (length file.now.functions))) }
 {
     let found = all_bodies(alloc, file, table, uses)?;

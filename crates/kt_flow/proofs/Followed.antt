@@ -22,7 +22,7 @@ use Rattle.kt_tree.specs.declared.ast.body.Branch.TheViews as v
 use Rattle.kt_tree.specs.declared.ast.body.Branch.TheFolds.{fold-roll-ExprKind}
 use Rattle.kt_model.specs.declared.uses.Named.{Named}
 use Rattle.kt_model.specs.declared.uses.Named.TheVariants as named
-use Rattle.kt_model.specs.BodyTrees.{Tree, Trees, Piece, Seen, SeenKind, Operation, Mark, listed, name_tree, call_tree, local_tree, assigned_tree, assign_tree, compound_of, seen_trees, named_there, kind_step, stmt_step, branch_step, piece_step, block_step, expr_step, nothing, seen, seen_kind, stmt_tree, block_trees, branch_trees, piece, expr_tree}
+use Rattle.kt_model.specs.BodyTrees.{Tree, Trees, Piece, Seen, SeenBlock, SeenKind, Operation, Mark, listed, name_tree, call_tree, local_tree, assigned_tree, assign_tree, compound_of, seen_trees, named_there, kind_step, stmt_step, branch_step, piece_step, block_step, expr_step, nothing, seen, seen_block, seen_branch, seen_kind, stmt_tree, block_trees, branch_trees, piece, expr_tree}
 use Rattle.kt_model.proofs.BodyFolds.{tree_of_kind, kind_return_any, kind_return_at_any, kind_throw, stmt_local_any, stmt_assign_any}
 use Rattle.kt_paths.specs.FlowRules.{last_tree}
 use Rattle.kt_flow.specs.Ends.{followed}
@@ -75,13 +75,13 @@ abbrev Layer : Type 0
 Layer = ExprKind-F Branch Condition ExprKind Stmt StringPart Block Catch Expr Lambda Subject WhenBranch
 
 followed_at : (uses : ℕ → Named) (l : Layer) (n : ℕ) (at : Span) → ((l' : Option Ident) (w : Option Expr) → v.roll-ExprKind l ≢ e.Return l' w) → ((x : Expr) → v.roll-ExprKind l ≢ e.Throw x) → followed ((seen_kind uses (v.roll-ExprKind l)).tree_at n at) ≡ Some n
-unfolding seen seen_kind stmt_tree block_trees branch_trees piece
+unfolding seen seen_kind stmt_tree seen_block seen_branch piece
 followed_at uses (ExprKind-F.Return l' w) n at h k = absurd (h l' w (v.rolls-Return l' w))
 followed_at uses (ExprKind-F.Throw x) n at h k = absurd (k x (v.rolls-Throw x))
-followed_at uses (ExprKind-F.Name x) n at h k = ap (λ (g : SeenKind). followed (g.tree_at n at)) (fold-roll-ExprKind Trees (Unit {0}) SeenKind Tree Piece Trees (Unit {0}) Seen (Unit {0}) (Unit {0}) (Unit {0}) branch_step nothing (kind_step uses) (stmt_step uses) piece_step block_step nothing expr_step nothing nothing nothing (ExprKind-F.Name x)) ∙ followed_name (uses n) n at
-followed_at uses (ExprKind-F.Call f xs None) n at h k = ap (λ (g : SeenKind). followed (g.tree_at n at)) (fold-roll-ExprKind Trees (Unit {0}) SeenKind Tree Piece Trees (Unit {0}) Seen (Unit {0}) (Unit {0}) (Unit {0}) branch_step nothing (kind_step uses) (stmt_step uses) piece_step block_step nothing expr_step nothing nothing nothing (ExprKind-F.Call f xs None)) ∙ followed_call (uses n) (seen_trees (map (seen uses) xs)) (named_there n at f.span)
-followed_at uses (ExprKind-F.Call f xs (Some l)) n at h k = ap (λ (g : SeenKind). followed (g.tree_at n at)) (fold-roll-ExprKind Trees (Unit {0}) SeenKind Tree Piece Trees (Unit {0}) Seen (Unit {0}) (Unit {0}) (Unit {0}) branch_step nothing (kind_step uses) (stmt_step uses) piece_step block_step nothing expr_step nothing nothing nothing (ExprKind-F.Call f xs (Some l)))
-followed_at uses l n at h k = ap (λ (g : SeenKind). followed (g.tree_at n at)) (fold-roll-ExprKind Trees (Unit {0}) SeenKind Tree Piece Trees (Unit {0}) Seen (Unit {0}) (Unit {0}) (Unit {0}) branch_step nothing (kind_step uses) (stmt_step uses) piece_step block_step nothing expr_step nothing nothing nothing l)
+followed_at uses (ExprKind-F.Name x) n at h k = ap (λ (g : SeenKind). followed (g.tree_at n at)) (fold-roll-ExprKind SeenBlock (Unit {0}) SeenKind Tree Piece SeenBlock (Unit {0}) Seen (Unit {0}) (Unit {0}) (Unit {0}) branch_step nothing (kind_step uses) (stmt_step uses) piece_step block_step nothing expr_step nothing nothing nothing (ExprKind-F.Name x)) ∙ followed_name (uses n) n at
+followed_at uses (ExprKind-F.Call f xs None) n at h k = ap (λ (g : SeenKind). followed (g.tree_at n at)) (fold-roll-ExprKind SeenBlock (Unit {0}) SeenKind Tree Piece SeenBlock (Unit {0}) Seen (Unit {0}) (Unit {0}) (Unit {0}) branch_step nothing (kind_step uses) (stmt_step uses) piece_step block_step nothing expr_step nothing nothing nothing (ExprKind-F.Call f xs None)) ∙ followed_call (uses n) (seen_trees (map (seen uses) xs)) (named_there n at f.span)
+followed_at uses (ExprKind-F.Call f xs (Some l)) n at h k = ap (λ (g : SeenKind). followed (g.tree_at n at)) (fold-roll-ExprKind SeenBlock (Unit {0}) SeenKind Tree Piece SeenBlock (Unit {0}) Seen (Unit {0}) (Unit {0}) (Unit {0}) branch_step nothing (kind_step uses) (stmt_step uses) piece_step block_step nothing expr_step nothing nothing nothing (ExprKind-F.Call f xs (Some l)))
+followed_at uses l n at h k = ap (λ (g : SeenKind). followed (g.tree_at n at)) (fold-roll-ExprKind SeenBlock (Unit {0}) SeenKind Tree Piece SeenBlock (Unit {0}) Seen (Unit {0}) (Unit {0}) (Unit {0}) branch_step nothing (kind_step uses) (stmt_step uses) piece_step block_step nothing expr_step nothing nothing nothing l)
 
 -- an expression that is neither a `return` nor a `throw` can be followed
 pub followed_other : (uses : ℕ → Named) (x : Expr) → ((l : Option Ident) (w : Option Expr) → x.kind ≢ e.Return l w) → ((a : Expr) → x.kind ≢ e.Throw a) → followed (expr_tree uses x) ≡ Some x.number

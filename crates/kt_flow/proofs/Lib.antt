@@ -14,3 +14,4 @@ pub mod Ordered
 pub mod AtNode
 pub mod Followed
 pub mod Ended
+pub mod Leaving

@@ -130,7 +130,7 @@ mutual
   many-nodes b k (Not' n e) = inside k (Not' n e) (nodes true k e) (trees_in e) (many-nodes true k e)
   many-nodes b k (And' n x y) = two k (And' n x y) (nodes true k x) (nodes true k y) _ _ (many-nodes true k x) (many-nodes true k y)
   many-nodes b k (Or' n x y) = two k (Or' n x y) (nodes true k x) (nodes true k y) _ _ (many-nodes true k x) (many-nodes true k y)
-  many-nodes b k (If' n c x y) = three b k (If' n c x y) (nodes true k c) (all_nodes k x) (all_nodes k y) _ _ _ (many-nodes true k c) (many-all_nodes k x) (many-all_nodes k y)
+  many-nodes b k (If' n braces c x y) = three b k (If' n braces c x y) (nodes true k c) (all_nodes k x) (all_nodes k y) _ _ _ (many-nodes true k c) (many-all_nodes k x) (many-all_nodes k y)
   many-nodes b k (Declare' n x) = alone b k (Declare' n x)
   many-nodes b k (Local' n at x e) = around b k (Local' n at x e) (nodes false k e) (trees_in e) (many-nodes false k e)
   many-nodes b k (Assign' n at x fixed e) = around b k (Assign' n at x fixed e) (nodes false k e) (trees_in e) (many-nodes false k e)

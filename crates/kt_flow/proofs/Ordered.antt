@@ -1,6 +1,5 @@
 -- Notes whose trees' numbers rise from above 0, and what the analysis of the graph of such a body finds.
-use Rattle.std.proofs.Common.{◌≡◌, ℕ, suc, ◌+◌, ◌<◌, ◌≤◌, ◌↔◌, false, List, [], ◌∷◌, map, length, get_or, IsTrue, inl, inr, refl, ap, subst, ◌∙◌, arith}
-use Rattle.std.specs.Prelude.{Result, Ok, Err, IfOk}
+use Rattle.std.proofs.Common.{◌≡◌, ℕ, suc, ◌+◌, ◌<◌, ◌≤◌, ◌↔◌, false, List, [], ◌∷◌, map, length, get_or, Contains, IsTrue, inl, inr, refl, ap, subst, ◌∙◌, arith}
 use Rattle.std.specs.List.{All}
 use Rattle.std.specs.List.Sorted.{IsStrictlyIncreasing}
 use Rattle.std.proofs.lemmas.Bool.{false≢true}
@@ -19,12 +18,14 @@ use Rattle.kt_model.specs.declared.uses.Owner.{Owner}
 use Rattle.kt_init.specs.Statuses.{Statuses, Analyses}
 use Rattle.kt_flow.specs.declared.notes.TreeNote.{TreeNote}
 use Rattle.kt_flow.specs.Notes.{note, trees_notes, AreRising, RiseFromZero}
-use Rattle.kt_flow.specs.Ends.{IsAgainstBody}
+use Rattle.kt_typing.specs.Typing.{IsLeft}
+use Rattle.kt_flow.specs.Ends.{IsAgainstBody, IsLeftBefore}
 use Rattle.kt_flow.proofs.Adding.{same_findings}
 use Rattle.kt_flow.proofs.Violated.{along_there, along_here}
 use Rattle.kt_flow.proofs.Paths.{IsPlaced, placed_graph}
 use Rattle.kt_flow.proofs.Ended.{end_violated, end_against}
 use Rattle.kt_flow.proofs.Entered.{settles}
+use Rattle.kt_flow.proofs.Leaving.{left_there, left_here}
 use Rattle.kt_flow.proofs.Rising.{rising_numbered}
 
 -- the numbers of notes behind 0
@@ -84,11 +85,6 @@ module _ (file : File) (uses : Resolved) (o : Owner) (classes : ℕ) (g : Graph)
   pub settled_in_body : (s : Statuses) → Analyses g s → SettlesEntered ps ts
   settled_in_body s a = settles ps ts classes g s placed a
 
-  -- the same of calls that may fail
-  pub found_on : {E : Type 0} (r : Result (List Finding) E) → IfOk r (AreFindings (IsAgainstBody file uses o notes g)) → IfOk r (AreFindings (IsPathViolated file uses o))
-  found_on (Ok found) h = found_in_body found h
-  found_on (Err x) h = tt
-
-  pub settled_on : {E : Type 0} (r : Result (List Finding) E) (s : Statuses) → Analyses g s → IfOk r (λ _. SettlesEntered ps ts)
-  settled_on (Ok found) s a = settled_in_body s a
-  settled_on (Err x) s a = tt
+  -- what is left by places is what is left along the paths of the body
+  pub left_in_body : (left : List ℕ) → ((tree : ℕ) → Contains left tree ↔ IsLeftBefore g tree (length g.nodes)) → (tree : ℕ) → Contains left tree ↔ IsLeft ps ts tree
+  left_in_body left are tree = (λ h. left_there ps ts classes g placed tree ((are tree).0 h), λ h. (are tree).1 (left_here ps ts classes g placed tree h))

@@ -25,7 +25,7 @@ use Rattle.kt_tree.specs.declared.ast.body.Branch.TheViews as v
 use Rattle.kt_tree.specs.declared.ast.body.Branch.TheFolds.{fold-roll-ExprKind}
 use Rattle.kt_model.specs.declared.uses.Named.{Named}
 use Rattle.kt_model.specs.declared.uses.Named.TheVariants as named
-use Rattle.kt_model.specs.BodyTrees.{Tree, Trees, Piece, Text', Inserted', Seen, SeenKind, Operation, Mark, Shut', listed, otherwise, inserted_of, seen_trees, seen_optional, named_there, name_tree, call_tree, local_tree, assigned_tree, kind_step, stmt_step, branch_step, piece_step, block_step, expr_step, nothing, seen, seen_kind, stmt_tree, block_trees, branch_trees, piece, expr_tree}
+use Rattle.kt_model.specs.BodyTrees.{Tree, Trees, Piece, Text', Inserted', Seen, SeenBlock, SeenKind, Operation, Mark, Shut', listed, otherwise, inserted_of, seen_trees, seen_optional, named_there, name_tree, call_tree, local_tree, assigned_tree, kind_step, stmt_step, branch_step, piece_step, block_step, expr_step, nothing, seen, seen_block, seen_branch, seen_kind, stmt_tree, block_trees, branch_trees, piece, expr_tree}
 use Rattle.kt_model.specs.TreesWithin.{trees_in, all_trees_in}
 use Rattle.kt_model.proofs.BodyFolds.{tree_of_kind, kind_template, kind_paren, kind_call, kind_call_with, kind_sign, kind_not, kind_sum, kind_arithmetic, kind_compare, kind_equal, kind_and, kind_or, kind_if_any, kind_return_any, kind_return_at_any, kind_throw}
 use Rattle.kt_flow.specs.Notes.{note, plain_note, declares_local, parts_in, tree_notes, trees_notes, part_notes, expr_notes, stmt_notes, piece_notes, branch_notes}
@@ -202,12 +202,12 @@ abbrev Layer : Type 0
 Layer = ExprKind-F Branch Condition ExprKind Stmt StringPart Block Catch Expr Lambda Subject WhenBranch
 
 plain_at : (uses : ℕ → Named) (l : Layer) → ((x : ℕ) → v.roll-ExprKind l ≢ e.Name x) → ((f : Ident) (xs : List Expr) (w : Option Lambda) → v.roll-ExprKind l ≢ e.Call f xs w) → (n : ℕ) (at : Span) → note ((seen_kind uses (v.roll-ExprKind l)).tree_at n at) ≡ plain_note n at
-unfolding seen seen_kind stmt_tree block_trees branch_trees piece note declares_local
+unfolding seen seen_kind stmt_tree seen_block seen_branch piece note declares_local
 plain_at uses (ExprKind-F.Name x) h k n at = absurd (h x (v.rolls-Name x))
 plain_at uses (ExprKind-F.Call f xs w) h k n at = absurd (k f xs w (v.rolls-Call f xs w))
-plain_at uses (ExprKind-F.Return None w) h k n at = ap (λ (g : SeenKind). note (g.tree_at n at)) (fold-roll-ExprKind Trees (Unit {0}) SeenKind Tree Piece Trees (Unit {0}) Seen (Unit {0}) (Unit {0}) (Unit {0}) branch_step nothing (kind_step uses) (stmt_step uses) piece_step block_step nothing expr_step nothing nothing nothing (ExprKind-F.Return None w))
-plain_at uses (ExprKind-F.Return (Some l) w) h k n at = ap (λ (g : SeenKind). note (g.tree_at n at)) (fold-roll-ExprKind Trees (Unit {0}) SeenKind Tree Piece Trees (Unit {0}) Seen (Unit {0}) (Unit {0}) (Unit {0}) branch_step nothing (kind_step uses) (stmt_step uses) piece_step block_step nothing expr_step nothing nothing nothing (ExprKind-F.Return (Some l) w))
-plain_at uses l h k n at = ap (λ (g : SeenKind). note (g.tree_at n at)) (fold-roll-ExprKind Trees (Unit {0}) SeenKind Tree Piece Trees (Unit {0}) Seen (Unit {0}) (Unit {0}) (Unit {0}) branch_step nothing (kind_step uses) (stmt_step uses) piece_step block_step nothing expr_step nothing nothing nothing l)
+plain_at uses (ExprKind-F.Return None w) h k n at = ap (λ (g : SeenKind). note (g.tree_at n at)) (fold-roll-ExprKind SeenBlock (Unit {0}) SeenKind Tree Piece SeenBlock (Unit {0}) Seen (Unit {0}) (Unit {0}) (Unit {0}) branch_step nothing (kind_step uses) (stmt_step uses) piece_step block_step nothing expr_step nothing nothing nothing (ExprKind-F.Return None w))
+plain_at uses (ExprKind-F.Return (Some l) w) h k n at = ap (λ (g : SeenKind). note (g.tree_at n at)) (fold-roll-ExprKind SeenBlock (Unit {0}) SeenKind Tree Piece SeenBlock (Unit {0}) Seen (Unit {0}) (Unit {0}) (Unit {0}) branch_step nothing (kind_step uses) (stmt_step uses) piece_step block_step nothing expr_step nothing nothing nothing (ExprKind-F.Return (Some l) w))
+plain_at uses l h k n at = ap (λ (g : SeenKind). note (g.tree_at n at)) (fold-roll-ExprKind SeenBlock (Unit {0}) SeenKind Tree Piece SeenBlock (Unit {0}) Seen (Unit {0}) (Unit {0}) (Unit {0}) branch_step nothing (kind_step uses) (stmt_step uses) piece_step block_step nothing expr_step nothing nothing nothing l)
 
 -- an expression that is neither a name nor a call does nothing to a local itself
 pub plain_expr : (uses : ℕ → Named) (x : Expr) → ((y : ℕ) → x.kind ≢ e.Name y) → ((f : Ident) (xs : List Expr) (w : Option Lambda) → x.kind ≢ e.Call f xs w) → note (expr_tree uses x) ≡ plain_note x.number x.span
@@ -224,8 +224,8 @@ name_parts (named.BuiltIn f r) n at = refl
 name_parts named.Other n at = refl
 
 no_parts_at : (uses : ℕ → Named) (l : Layer) (n : ℕ) (at : Span) → ((ps : List StringPart) → v.roll-ExprKind l ≢ e.Template ps) → ((x : Expr) → v.roll-ExprKind l ≢ e.Paren x) → ((o : Sign) (x : Expr) → v.roll-ExprKind l ≢ e.Sign o x) → ((x : Expr) → v.roll-ExprKind l ≢ e.Not x) → ((x : Expr) → v.roll-ExprKind l ≢ e.Throw x) → ((x : Expr) (y : Expr) → v.roll-ExprKind l ≢ e.Sum x y) → ((o : Arithmetic) (x : Expr) (y : Expr) → v.roll-ExprKind l ≢ e.Arithmetic o x y) → ((o : Comparison) (x : Expr) (y : Expr) → v.roll-ExprKind l ≢ e.Compare o x y) → ((o : Equality) (x : Expr) (y : Expr) → v.roll-ExprKind l ≢ e.Equal o x y) → ((x : Expr) (y : Expr) → v.roll-ExprKind l ≢ e.And x y) → ((x : Expr) (y : Expr) → v.roll-ExprKind l ≢ e.Or x y) → ((f : Ident) (xs : List Expr) (l' : Option Lambda) → v.roll-ExprKind l ≢ e.Call f xs l') → ((c : Expr) (x : Branch) (y : Option Branch) → v.roll-ExprKind l ≢ e.If c x y) → ((l' : Option Ident) (w : Option Expr) → v.roll-ExprKind l ≢ e.Return l' w) → part_notes ((seen_kind uses (v.roll-ExprKind l)).tree_at n at) ≡ []
-unfolding seen seen_kind stmt_tree block_trees branch_trees piece parts_in all_trees_in
-no_parts_at uses (ExprKind-F.Name x) n at h0 h1 h2 h3 h4 h5 h6 h7 h8 h9 h10 h11 h12 h13 = ap (λ (g : SeenKind). part_notes (g.tree_at n at)) (fold-roll-ExprKind Trees (Unit {0}) SeenKind Tree Piece Trees (Unit {0}) Seen (Unit {0}) (Unit {0}) (Unit {0}) branch_step nothing (kind_step uses) (stmt_step uses) piece_step block_step nothing expr_step nothing nothing nothing (ExprKind-F.Name x)) ∙ name_parts (uses n) n at
+unfolding seen seen_kind stmt_tree seen_block seen_branch piece parts_in all_trees_in
+no_parts_at uses (ExprKind-F.Name x) n at h0 h1 h2 h3 h4 h5 h6 h7 h8 h9 h10 h11 h12 h13 = ap (λ (g : SeenKind). part_notes (g.tree_at n at)) (fold-roll-ExprKind SeenBlock (Unit {0}) SeenKind Tree Piece SeenBlock (Unit {0}) Seen (Unit {0}) (Unit {0}) (Unit {0}) branch_step nothing (kind_step uses) (stmt_step uses) piece_step block_step nothing expr_step nothing nothing nothing (ExprKind-F.Name x)) ∙ name_parts (uses n) n at
 no_parts_at uses (ExprKind-F.Template ps) n at h0 h1 h2 h3 h4 h5 h6 h7 h8 h9 h10 h11 h12 h13 = absurd (h0 ps (v.rolls-Template ps))
 no_parts_at uses (ExprKind-F.Paren x) n at h0 h1 h2 h3 h4 h5 h6 h7 h8 h9 h10 h11 h12 h13 = absurd (h1 x (v.rolls-Paren x))
 no_parts_at uses (ExprKind-F.Sign o x) n at h0 h1 h2 h3 h4 h5 h6 h7 h8 h9 h10 h11 h12 h13 = absurd (h2 o x (v.rolls-Sign o x))
@@ -240,7 +240,7 @@ no_parts_at uses (ExprKind-F.Or x y) n at h0 h1 h2 h3 h4 h5 h6 h7 h8 h9 h10 h11 
 no_parts_at uses (ExprKind-F.Call f xs l) n at h0 h1 h2 h3 h4 h5 h6 h7 h8 h9 h10 h11 h12 h13 = absurd (h11 f xs l (v.rolls-Call f xs l))
 no_parts_at uses (ExprKind-F.If c x y) n at h0 h1 h2 h3 h4 h5 h6 h7 h8 h9 h10 h11 h12 h13 = absurd (h12 c x y (v.rolls-If c x y))
 no_parts_at uses (ExprKind-F.Return l w) n at h0 h1 h2 h3 h4 h5 h6 h7 h8 h9 h10 h11 h12 h13 = absurd (h13 l w (v.rolls-Return l w))
-no_parts_at uses l n at h0 h1 h2 h3 h4 h5 h6 h7 h8 h9 h10 h11 h12 h13 = ap (λ (g : SeenKind). part_notes (g.tree_at n at)) (fold-roll-ExprKind Trees (Unit {0}) SeenKind Tree Piece Trees (Unit {0}) Seen (Unit {0}) (Unit {0}) (Unit {0}) branch_step nothing (kind_step uses) (stmt_step uses) piece_step block_step nothing expr_step nothing nothing nothing l)
+no_parts_at uses l n at h0 h1 h2 h3 h4 h5 h6 h7 h8 h9 h10 h11 h12 h13 = ap (λ (g : SeenKind). part_notes (g.tree_at n at)) (fold-roll-ExprKind SeenBlock (Unit {0}) SeenKind Tree Piece SeenBlock (Unit {0}) Seen (Unit {0}) (Unit {0}) (Unit {0}) branch_step nothing (kind_step uses) (stmt_step uses) piece_step block_step nothing expr_step nothing nothing nothing l)
 
 -- an expression of which no parts are open
 pub no_parts : (uses : ℕ → Named) (x : Expr) → ((ps : List StringPart) → x.kind ≢ e.Template ps) → ((a : Expr) → x.kind ≢ e.Paren a) → ((o : Sign) (a : Expr) → x.kind ≢ e.Sign o a) → ((a : Expr) → x.kind ≢ e.Not a) → ((a : Expr) → x.kind ≢ e.Throw a) → ((a : Expr) (b : Expr) → x.kind ≢ e.Sum a b) → ((o : Arithmetic) (a : Expr) (b : Expr) → x.kind ≢ e.Arithmetic o a b) → ((o : Comparison) (a : Expr) (b : Expr) → x.kind ≢ e.Compare o a b) → ((o : Equality) (a : Expr) (b : Expr) → x.kind ≢ e.Equal o a b) → ((a : Expr) (b : Expr) → x.kind ≢ e.And a b) → ((a : Expr) (b : Expr) → x.kind ≢ e.Or a b) → ((f : Ident) (xs : List Expr) (l' : Option Lambda) → x.kind ≢ e.Call f xs l') → ((c : Expr) (a : Branch) (b : Option Branch) → x.kind ≢ e.If c a b) → ((l' : Option Ident) (w : Option Expr) → x.kind ≢ e.Return l' w) → part_notes (expr_tree uses x) ≡ []

@@ -39,7 +39,7 @@ mutual
   times-numbered m (Or' n a b) =
       let x = times-numbered m a in let y = times-numbered m b in
       let both = numbered-append m (trees_in a) (trees_in b) in omega arith
-  times-numbered m (If' n c a b) =
+  times-numbered m (If' n braces c a b) =
       let z = times-numbered m c in let x = all_times-numbered m a in let y = all_times-numbered m b in
       let arms = numbered-append m (all_trees_in a) (all_trees_in b) in
       let all = numbered-append m (trees_in c) (all_trees_in a ++ all_trees_in b) in omega arith

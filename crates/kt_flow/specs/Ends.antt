@@ -1,5 +1,5 @@
 -- The end of a function's block, by the places of a graph.
-use Rattle.std.specs.Prelude.{◌≡◌, ◌≢◌, ◌⊎◌, ℕ, ◌<◌, Bool, true, false, List, length, Option, Some, None, slice_get}
+use Rattle.std.specs.Prelude.{◌≡◌, ◌≢◌, ◌⊎◌, ◌↔◌, ℕ, ◌<◌, Bool, true, false, List, Contains, length, Option, Some, None, slice_get}
 use Rattle.kt_tree.specs.declared.ast.body.Block.{Block}
 use Rattle.kt_tree.specs.declared.ast.declaration.Contract.{Contract}
 use Rattle.kt_tree.specs.declared.ast.declaration.File.{File}
@@ -32,6 +32,10 @@ pub record IsLeftBefore (g : Graph) (tree place : ℕ) : Type 0 where
   pub node : ℕ
   pub before : node < place
   pub there : IsLeftAt g tree node
+
+-- A walk has put in the trees of which this holds, and no others.
+abbrev pub AddsTrees : (ℕ → Type 0) → List ℕ → List ℕ → Type 0
+AddsTrees P old new = (tree : ℕ) → Contains new tree ↔ (Contains old tree ⊎ P tree)
 
 -- the number of a tree, where what is behind the tree can follow it
 abbrev pub number_if : Bool → ℕ → Option ℕ

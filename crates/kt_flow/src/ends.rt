@@ -1,24 +1,21 @@
 //! Whether a path leads to the end of a block that must give a value.
-ghost use Rattle.std.specs.Prelude.{◌≡◌, ◌≢◌, ◌<◌, ◌↔◌, ℕ, length, map, Some, IsTrue, OnOk};
+ghost use Rattle.std.specs.Prelude.{◌≡◌, ◌≢◌, ◌↔◌, ℕ, length, map, Some, IsTrue, OnOk};
 ghost use Rattle.kt_model.specs.BodyTrees.{expr_tree, stmt_tree, listed};
 ghost use Rattle.kt_model.specs.BuiltIns.{unit_type};
 ghost use Rattle.kt_model.specs.Findings.{Adds};
 ghost use Rattle.kt_model.specs.NameUses.{declaration_type, function_place};
 ghost use Rattle.kt_model.specs.declared.uses.Named.{Named};
 ghost use Rattle.kt_init.specs.Statuses.{Analyses};
-ghost use Rattle.kt_flow.specs.Ends.{followed, FallsThrough, IsAgainstEnd, IsEndAt, IsLeftAt, IsLeftBefore};
+ghost use Rattle.kt_flow.specs.Ends.{followed, FallsThrough, IsAgainstEnd, IsEndAt, IsLeftBefore};
 
 use crate::along::{Found, Paths};
+use crate::left::leaves;
 use crate::limits::add_if;
 use kt_model::finding::Rule;
-use kt_model::graph::Tag;
 use kt_model::kinds::{Head, KtType};
 use kt_model::uses::{Body, Owner, Uses};
 use kt_tree::NoMemory;
 use kt_tree::ast::{Expr, ExprKind, FunctionBody, Stmt};
-
-/// How many built-in functions are open: their declarations stand before those of the file's functions.
-const OPEN_BUILT_IN: usize = 2;
 
 /// `Unit`
 const UNIT: KtType = KtType {
@@ -30,7 +27,7 @@ const UNIT: KtType = KtType {
 fn gives_value(uses: &Uses, function: u32) -> bool
     ensures { IsTrue result ↔ (declaration_type uses.now (function_place function) ≢ Some unit_type) }
 {
-    match uses.written(OPEN_BUILT_IN + function as usize) {
+    match uses.function_result(function) {
         Some(t) => t != UNIT,
         None => true,
     }
@@ -65,17 +62,6 @@ fn followed_stmt(s: &Stmt) -> Option<u32>
 }
 
 impl Paths<'_> {
-    /// Whether a node is the `out` of a tree and is reached.
-    fn leaves(&self, tree: u32, node: u32) -> bool
-        requires analysed { Analyses self.now.graph.now self.now.init.now }
-        requires within { node < length self.now.graph.now.nodes }
-        ensures { IsTrue result ↔ IsLeftAt self.now.graph.now tree node }
-    {
-        let nodes = self.graph.nodes.as_slice();
-        let row = &nodes[node as usize];
-        row.tree == tree && row.tag == Tag::Out && self.init.reached(node)
-    }
-
     /// Whether a path ends at the `out` of a tree, among so many nodes.
     fn is_left(&self, tree: u32, end: u32) -> bool
         requires analysed { Analyses self.now.graph.now self.now.init.now }
@@ -83,7 +69,7 @@ impl Paths<'_> {
         ensures { IsTrue result ↔ IsLeftBefore self.now.graph.now tree end }
     {
         for node in 0..end {
-            if self.leaves(tree, node) {
+            if leaves(self.graph, self.init, tree, node) {
                 return true;
             }
         }

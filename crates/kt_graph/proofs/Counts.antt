@@ -37,7 +37,7 @@ mutual
   length-nodes b copy (Not' n e) = inside copy (Not' n e) (nodes true copy e) ∙ ap (λ k. 2 + k) (length-nodes true copy e)
   length-nodes b copy (And' n x y) = two copy (And' n x y) (nodes true copy x) (nodes true copy y) _ _ (length-nodes true copy x) (length-nodes true copy y)
   length-nodes b copy (Or' n x y) = two copy (Or' n x y) (nodes true copy x) (nodes true copy y) _ _ (length-nodes true copy x) (length-nodes true copy y)
-  length-nodes b copy (If' n c x y) = three b copy (If' n c x y) (nodes true copy c) (all_nodes copy x) (all_nodes copy y) _ _ _ (length-nodes true copy c) (length-all_nodes copy x) (length-all_nodes copy y)
+  length-nodes b copy (If' n braces c x y) = three b copy (If' n braces c x y) (nodes true copy c) (all_nodes copy x) (all_nodes copy y) _ _ _ (length-nodes true copy c) (length-all_nodes copy x) (length-all_nodes copy y)
   length-nodes true copy (Declare' n x) = refl
   length-nodes false copy (Declare' n x) = refl
   length-nodes b copy (Local' n at x e) = between b copy (Local' n at x e) (nodes false copy e) ∙ ap (λ k. own_size b + k) (length-nodes false copy e)

@@ -4,7 +4,7 @@ use Rattle.std.specs.Prelude.{Result, Ok, Err, IfOk}
 use Rattle.kt_tree.specs.declared.token.Span.{Span}
 use Rattle.kt_model.specs.declared.graph.Tag.{Tag}
 use Rattle.kt_model.specs.declared.graph.Known.TheVariants as known
-use Rattle.kt_model.specs.BodyTrees.{Tree, Trees, Operation, Operation', Name', Paren', Not', And', Or', If', Declare', Local', Assign', Compound', Call', Return', Throw', Shut', Empty', First', Piece, Text', Inserted', expr_tree, branch_trees, stmt_tree, piece, seen, seen_trees, inserted_of, listed, named_there, Seen, assign_tree, name_span}
+use Rattle.kt_model.specs.BodyTrees.{Tree, Trees, Braces, Operation, Operation', Name', Paren', Not', And', Or', If', Declare', Local', Assign', Compound', Call', Return', Throw', Shut', Empty', First', Piece, Text', Inserted', expr_tree, branch_trees, stmt_tree, piece, seen, seen_trees, inserted_of, listed, named_there, Seen, assign_tree, name_span}
 use Rattle.kt_tree.specs.declared.ast.body.Expr.{Expr}
 use Rattle.kt_tree.specs.declared.ast.body.Branch.{Branch}
 use Rattle.kt_tree.specs.declared.ast.body.Stmt.{Stmt}
@@ -105,7 +105,7 @@ pub walk_or : {a b d f g : Builder} {t u : Tree} {n k m r : ℕ} {sp word : Span
 unfolding nodes edges
 walk_or p v w q = record { tree_walked = whole (next (next (next p v.tree_walked) w.tree_walked) q) refl (λ ns e. cc) (λ ns e. e.1) }
 
-pub walk_if : {a b d f g h : Builder} {t : Tree} {us vs : Trees} {n o m r : ℕ} {sp word : Span} {x y : Option ℕ} {c : FlowContext} {ex : Exits} → Leaves a b n [] c ex o → WalksTrees b d vs c (Some o) y → WalksTrees d f us c (Some o) x → WalksTree f g t c (exits.Branch x y) m → StepsTo g h (in_at n c.copy []) c (Some m) r → WalksTree a h (If' (named_there n sp word) t us vs) c ex r
+pub walk_if : {a b d f g h : Builder} {t : Tree} {us vs : Trees} {n o m r : ℕ} {sp word : Span} {braces : Braces} {x y : Option ℕ} {c : FlowContext} {ex : Exits} → Leaves a b n [] c ex o → WalksTrees b d vs c (Some o) y → WalksTrees d f us c (Some o) x → WalksTree f g t c (exits.Branch x y) m → StepsTo g h (in_at n c.copy []) c (Some m) r → WalksTree a h (If' (named_there n sp word) braces t us vs) c ex r
 unfolding nodes edges
 walk_if p v u w q = record { tree_walked = whole (next (next (next (next p v.trees_walked) u.trees_walked) w.tree_walked) q) refl (λ ns e. cc) (λ ns e. e.1) }
 

@@ -15,7 +15,7 @@ abbrev mutual
   size branching (Not' n e) = 2 + size true e
   size branching (And' n a b) = 2 + (size true a + size true b)
   size branching (Or' n a b) = 2 + (size true a + size true b)
-  size branching (If' n c a b) = own_size branching + (size true c + (all_size a + all_size b))
+  size branching (If' n braces c a b) = own_size branching + (size true c + (all_size a + all_size b))
   size branching (Declare' n x) = own_size branching
   size branching (Local' n at x e) = own_size branching + size false e
   size branching (Assign' n at x fixed e) = own_size branching + size false e

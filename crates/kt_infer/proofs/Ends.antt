@@ -4,22 +4,23 @@ use Rattle.kt_tree.specs.declared.token.Span.{Span}
 use Rattle.kt_tree.specs.declared.ast.body.Stmt.{Stmt}
 use Rattle.kt_model.specs.declared.uses.Named.{Named}
 use Rattle.kt_model.specs.Classes.{Classes}
-use Rattle.kt_model.specs.BodyTrees.{Tree, Trees, Mark, whole, If', Empty', First', listed, stmt_tree}
-use Rattle.kt_typing.specs.Typing.{TypeContext, LocalTypes, Ways, Each, Then, Judgement, Judgements, closed, outcome, type_in, finding_in, have_types, judged, all_judged, last_of, boolean, branched, branch_way, branch_ways, joined_claim}
+use Rattle.kt_model.specs.BodyTrees.{Tree, Trees, Braces, whole, If', Empty', First', listed, stmt_tree}
+use Rattle.kt_typing.specs.Typing.{TypeContext, LocalTypes, Ways, Each, Then, Judgement, Judgements, closed, outcome, type_in, finding_in, have_types, judged, all_judged, last_of, boolean, branched, branch_way, branch_ways, of_branch, end_way, is_declaration_or_assignment, joined_claim}
 use Rattle.kt_model.specs.declared.kinds.KtType.{KtType}
 use Rattle.kt_model.specs.declared.finding.Finding.{Finding}
 use Rattle.kt_typing.specs.declared.claims.Way.{Way}
 use Rattle.kt_typing.specs.declared.claims.Way.TheVariants.{Unvalued, Plain, Inferred, Checked}
 use Rattle.kt_typing.specs.declared.claims.Outcome.{Outcome}
 use Rattle.kt_typing.specs.declared.claims.TypeRow.{TypeRow}
-use Rattle.kt_infer.specs.Noting.{Judges, JudgesAll, Adds, Exchanges, OpensIn, OpensAllIn, OpensAs, OpensLast, is_valued, by_last}
-use Rattle.kt_infer.specs.Opening.{stem_of, joined_of, joined_with, joined_outcome, last_type, end_of, outcome_of, rows_of, own_rows, rows_behind, findings_behind}
+use Rattle.kt_infer.specs.Noting.{Judges, JudgesLeading, Adds, Exchanges, OpensIn, OpensAllIn, OpensAs, OpensEnd, OpensLast, is_valued, never_ends_by}
+use Rattle.kt_infer.specs.Opening.{stem_of, joined_of, joined_with, joined_outcome, last_type, end_of, outcome_of, rows_of, own_rows, rows_behind, findings_behind, typed_before}
 use Rattle.kt_infer.specs.declared.notes.Notes.{Notes}
 use Rattle.kt_infer.specs.declared.notes.Stem.{Stem}
 use Rattle.kt_infer.specs.declared.notes.Between.{Between}
-use Rattle.kt_infer.specs.declared.notes.Opened.{Opened, Absent}
+use Rattle.kt_infer.specs.declared.notes.Opened.{Opened, EmptyBlock, Ended, Absent}
 use Rattle.std.proofs.lemmas.Bool.{false≢true}
-use Rattle.kt_infer.proofs.Passing.{no_end, no_branch}
+use Rattle.kt_infer.proofs.Passing.{no_end, no_leading}
+use Rattle.kt_infer.proofs.BlockEnds.{branch_by_leading}
 
 -- ---- what is added one after the other
 
@@ -74,38 +75,79 @@ splits cx way (u ∷ us) t L =
       split_locals = ap (λ w. (here w).locals) (more_ways way u us t) ∙ rest.split_locals;
     }
 
-pub last_more : (cx : TypeContext) {a b c : Notes} (us : List Tree) (t : Tree) {k : Bool} {o : Opened}
-    → JudgesAll a b (by_last (all_judged cx (Each Unvalued) a.locals.entries (listed us))) k → OpensAs cx true b c t o → OpensLast cx a c (listed (us ++ t ∷ [])) o
-last_more cx {a} {b} {c} us t {k} {o} p q = record { last_in_way = last_in_way }
+-- the last tree was opened, where the block may end
+pub opens_going : (cx : TypeContext) {a b : Notes} {any : Bool} {t : Tree} {o : Opened} → never_ends_by cx any t ≡ false → OpensAs cx true a b t o → OpensEnd cx any a b t o
+opens_going cx {a} {b} {any} {t} {o} h p = record { end_in_way = end_in_way }
   where
-    last_in_way : (way : Way) → is_valued way ≡ true
-        → OpensAllIn a c (all_judged cx (branch_ways way (listed (us ++ t ∷ []))) a.locals.entries (listed (us ++ t ∷ []))) cx.classes way o
-    last_in_way way v =
+    end_in_way : (way : Way) → is_valued way ≡ true → OpensIn a b (judged cx (end_way (never_ends_by cx any t) way) a.locals.entries t) cx.classes way o
+    end_in_way way v = subst (λ e. OpensIn a b (judged cx (end_way e way) a.locals.entries t) cx.classes way o) (sym h) (p.in_such_way way v)
+
+typed_already : (f : Option KtType) → type_in (typed_before f) ≡ f
+typed_already (Some t) = refl
+typed_already None = refl
+
+-- the last tree was ended, where the block never ends
+pub opens_ended : (cx : TypeContext) {a b : Notes} {any : Bool} {t : Tree} {f : Option KtType} → never_ends_by cx any t ≡ true
+    → Judges a b (judged cx Unvalued a.locals.entries t) f → OpensEnd cx any a b t (Ended f)
+opens_ended cx {a} {b} {any} {t} {f} h p = record { end_in_way = end_in_way }
+  where
+    ended_in : (way : Way) → OpensIn a b (judged cx Unvalued a.locals.entries t) cx.classes way (Ended f)
+    ended_in way = record {
+      open_type = ap (λ g. g ∷ []) (sym p.same_type ∙ sym (typed_already f));
+      open_rows = sym (append-nil b.rows ∙ p.more_rows);
+      open_findings = sym (append-nil b.findings.items ∙ p.more_findings);
+      open_locals = p.same_locals;
+    }
+
+    end_in_way : (way : Way) → is_valued way ≡ true → OpensIn a b (judged cx (end_way (never_ends_by cx any t) way) a.locals.entries t) cx.classes way (Ended f)
+    end_in_way way v = subst (λ e. OpensIn a b (judged cx (end_way e way) a.locals.entries t) cx.classes way (Ended f)) (sym h) (ended_in way)
+
+pub last_more : (cx : TypeContext) {a b c : Notes} {at : Option Span} (us : List Tree) (t : Tree) {any : Bool} {o : Opened}
+    → JudgesLeading a b (all_judged cx (Each Unvalued) a.locals.entries (listed us)) any → OpensEnd cx any b c t o → OpensLast cx a c at (listed (us ++ t ∷ [])) o
+last_more cx {a} {b} {c} {at} us t {any} {o} p q = record { last_in_way = last_in_way }
+  where
+    in_end_way : (way : Way) → is_valued way ≡ true
+        → OpensAllIn a c (all_judged cx (branch_ways (end_way (never_ends_by cx any t) way) (listed (us ++ t ∷ []))) a.locals.entries (listed (us ++ t ∷ []))) cx.classes way o
+    in_end_way way v =
+        let w = end_way (never_ends_by cx any t) way in
         let front = all_judged cx (Each Unvalued) a.locals.entries (listed us) in
-        let j = judged cx way front.locals t in
-        let s : Splits (all_judged cx (branch_ways way (listed (us ++ t ∷ []))) a.locals.entries (listed (us ++ t ∷ []))) front j = splits cx way us t a.locals.entries in
-        let i : OpensIn b c (judged cx way b.locals.entries t) cx.classes way o = q.in_such_way way v in
-        let same : j ≡ judged cx way b.locals.entries t = ap (λ l. judged cx way l t) (sym p.all_locals) in
+        let j = judged cx w front.locals t in
+        let s : Splits (all_judged cx (branch_ways w (listed (us ++ t ∷ []))) a.locals.entries (listed (us ++ t ∷ []))) front j = splits cx w us t a.locals.entries in
+        let i : OpensIn b c (judged cx w b.locals.entries t) cx.classes way o = q.end_in_way way v in
+        let same : j ≡ judged cx w b.locals.entries t = ap (λ l. judged cx w l t) (sym p.leading_locals) in
         record {
           end_type = s.split_last ∙ ap (λ x. x.found ∷ []) same ∙ i.open_type;
           end_rows =
-              ap (λ l. a.rows ++ l) s.split_rows ∙ sym (append_assoc a.rows front.rows j.rows) ∙ ap (λ l. l ++ j.rows) (sym p.all_rows)
+              ap (λ l. a.rows ++ l) s.split_rows ∙ sym (append_assoc a.rows front.rows j.rows) ∙ ap (λ l. l ++ j.rows) (sym p.leading_rows)
               ∙ ap (λ x. b.rows ++ x.rows) same ∙ i.open_rows;
           end_findings =
               ap (λ l. a.findings.items ++ l) s.split_findings ∙ sym (append_assoc a.findings.items front.findings j.findings)
-              ∙ ap (λ l. l ++ j.findings) (sym p.all_findings) ∙ ap (λ x. b.findings.items ++ x.findings) same ∙ i.open_findings;
+              ∙ ap (λ l. l ++ j.findings) (sym p.leading_findings) ∙ ap (λ x. b.findings.items ++ x.findings) same ∙ i.open_findings;
           end_locals = i.open_locals ∙ sym (ap (λ x. x.locals) same) ∙ sym s.split_locals;
         }
 
-pub last_alone : (cx : TypeContext) {a b : Notes} (t : Tree) {o : Opened} → OpensAs cx true a b t o → OpensLast cx a b (First' t Empty') o
-last_alone cx {a} t p = last_more cx [] t (no_branch cx a (Each Unvalued)) p
+    last_in_way : (way : Way) → is_valued way ≡ true
+        → OpensAllIn a c (of_branch cx way at (listed (us ++ t ∷ [])) a.locals.entries (λ ways. all_judged cx ways a.locals.entries (listed (us ++ t ∷ [])))) cx.classes way o
+    last_in_way way v =
+        subst (λ js. OpensAllIn a c js cx.classes way o) (sym (branch_by_leading cx way at us t a.locals.entries p.same_nothing)) (in_end_way way v)
 
-pub no_last : (cx : TypeContext) (a : Notes) → OpensLast cx a a Empty' Absent
-unfolding judged
+never_without : (d : Bool) → (d && false) ≡ false
+never_without true = refl
+never_without false = refl
+
+pub last_alone : (cx : TypeContext) {a b : Notes} (t : Tree) {o : Opened} → OpensAs cx true a b t o → OpensLast cx a b None (First' t Empty') o
+last_alone cx {a} t p = last_more cx [] t (no_leading cx a) (opens_going cx (never_without (is_declaration_or_assignment t)) p)
+
+-- a branch that is not there
+pub no_last : (cx : TypeContext) (a : Notes) → OpensLast cx a a None Empty' Absent
 no_last cx a = record { last_in_way = λ way v. record { end_type = refl; end_rows = refl; end_findings = refl; end_locals = refl } }
 
-pub same_last : {cx : TypeContext} {a b : Notes} {ts us : Trees} {o : Opened} → us ≡ ts → OpensLast cx a b ts o → OpensLast cx a b us o
-same_last {cx} {a} {b} {ts} {us} {o} e p = subst (λ r. OpensLast cx a b r o) (sym e) p
+-- an empty block
+pub empty_last : (cx : TypeContext) (a : Notes) (at : Span) → OpensLast cx a a (Some at) Empty' (EmptyBlock at)
+empty_last cx a at = record { last_in_way = λ way v. record { end_type = refl; end_rows = refl; end_findings = refl; end_locals = refl } }
+
+pub same_last : {cx : TypeContext} {a b : Notes} {at place : Option Span} {ts us : Trees} {o : Opened} → place ≡ at → us ≡ ts → OpensLast cx a b at ts o → OpensLast cx a b place us o
+same_last {cx} {a} {b} {at} {place} {ts} {us} {o} f e p = subst (λ s. OpensLast cx a b s us o) (sym f) (subst (λ r. OpensLast cx a b at r o) (sym e) p)
 
 pub trees_behind : (uses : ℕ → Named) (xs : List Stmt) (s : Stmt) → map (stmt_tree uses) (xs ++ s ∷ []) ≡ map (stmt_tree uses) xs ++ stmt_tree uses s ∷ []
 trees_behind uses [] s = refl
@@ -165,8 +207,8 @@ abbrev joined_form : TypeContext → ℕ → Span → Way → Judgement → Judg
 joined_form cx n at way C F S = closed cx Plain (whole n at) (branched C F S) (joined_claim cx.classes way (whole n at) (last_of F.each_found) (last_of S.each_found))
 
 -- what is said of the statements of a branch
-abbrev ending_form : TypeContext → Trees → Way → LocalTypes → Judgements
-ending_form cx ts way L = all_judged cx (branch_ways (branch_way way) ts) L ts
+abbrev ending_form : TypeContext → Option Span → Trees → Way → LocalTypes → Judgements
+ending_form cx at ts way L = of_branch cx (branch_way way) at ts L (λ ways. all_judged cx ways L ts)
 
 joins_in : (cx : TypeContext) {a b c d e f : Notes} {J : Judgement} (n : ℕ) (at : Span) (way : Way) (C : Judgement) (F S : Judgements) {g : Option KtType} {first second : Opened} {given before between : Between}
     → J ≡ joined_form cx n at way C F S
@@ -199,32 +241,32 @@ joins_in cx {a} {b} {c} {d} {e} {f} {J} n at way C F S {g} {first} {second} {giv
       open_locals = y.exchanged_locals ∙ r.end_locals ∙ sym (ap (λ j. j.locals) form);
     }
 
-pub opens_joined : (cx : TypeContext) {a b c d e f : Notes} (n : ℕ) (at : Span) (t : Tree) (us vs : Trees) {g : Option KtType} {k : Bool} {first second o : Opened} {given before between : Between}
-    → Judges a b (judged cx (Checked boolean) a.locals.entries t) g → OpensLast cx b c us first → Exchanges c d given before → given.rows ≡ [] → given.findings.items ≡ []
-    → OpensLast cx d e vs second → Exchanges e f before between → k ≡ is_some g → o ≡ joined_of n at k first between second → OpensAs cx true a f (If' (whole n at) t us vs) o
+pub opens_joined : (cx : TypeContext) {a b c d e f : Notes} (n : ℕ) (at : Span) (braces : Braces) (t : Tree) (us vs : Trees) {g : Option KtType} {k : Bool} {first second o : Opened} {given before between : Between}
+    → Judges a b (judged cx (Checked boolean) a.locals.entries t) g → OpensLast cx b c braces.first us first → Exchanges c d given before → given.rows ≡ [] → given.findings.items ≡ []
+    → OpensLast cx d e braces.second vs second → Exchanges e f before between → k ≡ is_some g → o ≡ joined_of n at k first between second → OpensAs cx true a f (If' (whole n at) braces t us vs) o
 unfolding judged
-opens_joined cx {a} {b} {c} {d} {e} {f} n at t us vs {g} {k} {first} {second} {o} {given} {before} {between} p q x none_rows none_findings r y m w =
-    subst (λ z. OpensAs cx true a f (If' (whole n at) t us vs) z) (sym (w ∙ ap (λ h. joined_of n at h first between second) m)) all_ways
+opens_joined cx {a} {b} {c} {d} {e} {f} n at braces t us vs {g} {k} {first} {second} {o} {given} {before} {between} p q x none_rows none_findings r y m w =
+    subst (λ z. OpensAs cx true a f (If' (whole n at) braces t us vs) z) (sym (w ∙ ap (λ h. joined_of n at h first between second) m)) all_ways
   where
     joins : (way : Way)
-        → judged cx way a.locals.entries (If' (whole n at) t us vs)
-        ≡ joined_form cx n at way (judged cx (Checked boolean) a.locals.entries t) (ending_form cx us way (judged cx (Checked boolean) a.locals.entries t).locals)
-        (ending_form cx vs way (ending_form cx us way (judged cx (Checked boolean) a.locals.entries t).locals).locals)
-        → OpensIn a f (judged cx way a.locals.entries (If' (whole n at) t us vs)) cx.classes way (joined_of n at (is_some g) first between second)
+        → judged cx way a.locals.entries (If' (whole n at) braces t us vs)
+        ≡ joined_form cx n at way (judged cx (Checked boolean) a.locals.entries t) (ending_form cx braces.first us way (judged cx (Checked boolean) a.locals.entries t).locals)
+        (ending_form cx braces.second vs way (ending_form cx braces.first us way (judged cx (Checked boolean) a.locals.entries t).locals).locals)
+        → OpensIn a f (judged cx way a.locals.entries (If' (whole n at) braces t us vs)) cx.classes way (joined_of n at (is_some g) first between second)
     joins way form =
         let C = judged cx (Checked boolean) a.locals.entries t in
-        let i : OpensAllIn b c (ending_form cx us way b.locals.entries) cx.classes (branch_way way) first = q.last_in_way (branch_way way) (branch_valued way) in
-        let l : OpensAllIn d e (ending_form cx vs way d.locals.entries) cx.classes (branch_way way) second = r.last_in_way (branch_way way) (branch_valued way) in
-        joins_in cx n at way C (ending_form cx us way b.locals.entries) (ending_form cx vs way d.locals.entries)
-        (form ∙ ap (λ L. joined_form cx n at way C (ending_form cx us way L) (ending_form cx vs way (ending_form cx us way L).locals)) (sym p.same_locals)
-        ∙ ap (λ L. joined_form cx n at way C (ending_form cx us way b.locals.entries) (ending_form cx vs way L)) (sym i.end_locals ∙ sym x.exchanged_locals))
+        let i : OpensAllIn b c (ending_form cx braces.first us way b.locals.entries) cx.classes (branch_way way) first = q.last_in_way (branch_way way) (branch_valued way) in
+        let l : OpensAllIn d e (ending_form cx braces.second vs way d.locals.entries) cx.classes (branch_way way) second = r.last_in_way (branch_way way) (branch_valued way) in
+        joins_in cx n at way C (ending_form cx braces.first us way b.locals.entries) (ending_form cx braces.second vs way d.locals.entries)
+        (form ∙ ap (λ L. joined_form cx n at way C (ending_form cx braces.first us way L) (ending_form cx braces.second vs way (ending_form cx braces.first us way L).locals)) (sym p.same_locals)
+        ∙ ap (λ L. joined_form cx n at way C (ending_form cx braces.first us way b.locals.entries) (ending_form cx braces.second vs way L)) (sym i.end_locals ∙ sym x.exchanged_locals))
         p i x none_rows none_findings l y
 
-    in_such_way : (way : Way) → is_valued way ≡ true → OpensIn a f (judged cx way a.locals.entries (If' (whole n at) t us vs)) cx.classes way (joined_of n at (is_some g) first between second)
+    in_such_way : (way : Way) → is_valued way ≡ true → OpensIn a f (judged cx way a.locals.entries (If' (whole n at) braces t us vs)) cx.classes way (joined_of n at (is_some g) first between second)
     in_such_way Unvalued v = absurd (false≢true v)
     in_such_way Plain v = joins Plain refl
     in_such_way Inferred v = joins Inferred refl
     in_such_way (Checked u) v = joins (Checked u) refl
 
-    all_ways : OpensAs cx true a f (If' (whole n at) t us vs) (joined_of n at (is_some g) first between second)
-    all_ways = record { in_such_way = in_such_way }
+    all_ways : OpensAs cx true a f (If' (whole n at) braces t us vs) (joined_of n at (is_some g) first between second)
+    all_ways = record { in_such_way = in_such_way; such_tree = refl }

@@ -1,6 +1,6 @@
 -- How each form of tree is opened, once its parts are typed.
-use Rattle.std.proofs.Common.{◌≡◌, ℕ, suc, ◌&&◌, Bool, true, false, List, [], ◌∷◌, ◌++◌, length, map, Option, Some, None, is_some, refl, sym, ap, ◌∙◌, append_assoc}
-use Rattle.std.proofs.lemmas.Bool.{false≢true}
+use Rattle.std.proofs.Common.{◌≡◌, ◌==◌, ℕ, suc, ◌&&◌, Bool, true, false, List, [], ◌∷◌, ◌++◌, length, map, Option, Some, None, is_some, refl, sym, ap, ◌∙◌, append_assoc}
+use Rattle.std.proofs.lemmas.Bool.{false≢true, eq-eqb}
 use Rattle.std.specs.Option.{option_map}
 use Rattle.kt_tree.specs.declared.token.Span.{Span}
 use Rattle.kt_tree.specs.declared.ast.part.Sign.{Sign}
@@ -10,8 +10,8 @@ use Rattle.kt_tree.specs.declared.ast.body.Expr.{Expr}
 use Rattle.kt_model.specs.declared.uses.Named.{Named}
 use Rattle.kt_model.specs.BuiltIns.{built_in_named}
 use Rattle.kt_model.specs.NameUses.{Resolved}
-use Rattle.kt_model.specs.BodyTrees.{Tree, Trees, Mark, whole, Operation, Operation', Name', Not', And', Or', If', Declare', Local', Assign', Compound', Call', Return', Throw', Shut', Empty', First', Sum', Sign', Compare', Equal', BuiltIn', seen, seen_trees}
-use Rattle.kt_typing.specs.Typing.{TypeContext, LocalTypes, Each, Then, Judgements, no_trees, in_front, alone, closed, type_in, have_types, judged, all_judged, int, unit, look_up, declared, initialised, known_type, value_way, type_or_none, declaration_claim, assign_claim, name_claim, old_value, compound_claim, boolean, nothing as nothing_type, branched, apart, equality_demand, demand_if, bare_return, operation_demand, operator_demand, operator_of, call_demand, shut, count, is_text, first_of, left_way, right_way, sum_operator, built_in_signature}
+use Rattle.kt_model.specs.BodyTrees.{Tree, Trees, Mark, Braces, whole, Operation, Operation', Name', Not', And', Or', If', Declare', Local', Assign', Compound', Call', Return', Throw', Shut', Empty', First', Template', Sum', Sign', Compare', Equal', BuiltIn', Piece, Text', Inserted', texts_of, inserted_of, seen, seen_trees}
+use Rattle.kt_typing.specs.Typing.{TypeContext, LocalTypes, Each, Then, Judgements, no_trees, in_front, alone, closed, type_in, have_types, judged, all_judged, int, string, unit, look_up, declared, initialised, known_type, value_way, type_or_none, declaration_claim, assign_claim, name_claim, old_value, compound_claim, boolean, nothing as nothing_type, branched, apart, equality_demand, demand_if, bare_return, operation_demand, operator_demand, operator_of, call_demand, count, places, is_text, left_way, right_way, sum_operator, built_in_signature}
 use Rattle.kt_typing.specs.declared.claims.Operator.{Operator}
 use Rattle.kt_model.specs.declared.finding.Rule.TheVariants.{Syntax}
 use Rattle.kt_infer.specs.declared.calls.Signature.{Signature}
@@ -23,7 +23,7 @@ use Rattle.kt_typing.specs.declared.claims.Way.TheVariants.{Unvalued, Plain, Inf
 use Rattle.kt_typing.specs.declared.claims.Claim.{Claim}
 use Rattle.kt_typing.specs.declared.claims.Claim.TheVariants.{Gives, Breaks}
 use Rattle.kt_infer.specs.Noting.{Keeps, Judges, JudgesAll, OpensIn, Opens, OpensAs, is_valued, by_last}
-use Rattle.kt_infer.specs.Opening.{IsOpened, outcome_of}
+use Rattle.kt_infer.specs.Opening.{IsOpened, is_tree, outcome_of}
 use Rattle.kt_infer.specs.declared.notes.Notes.{Notes}
 use Rattle.kt_infer.specs.declared.notes.Opened.{Opened}
 use Rattle.kt_infer.proofs.Passing.{same_judgements, none, changed, front, only, one, two, first, opens_in, opens, typed_end}
@@ -89,16 +89,16 @@ parts_of_if cx {a} {b} {c} {d} e x y p q r =
     ∙ ap (λ l. joined (by_last (in_first b.locals.entries)) (by_last (in_second l))) (sym q.all_locals) in
     front p (same_judgements same (join q r))
 
-pub opens_if : (cx : TypeContext) {a b c d : Notes} (n : Mark) (e : Tree) (x y : Trees) {f : Option KtType} {k m : Bool} {o : Opened} {valued : Bool} → valued ≡ false
+pub opens_if : (cx : TypeContext) {a b c d : Notes} (n : Mark) (braces : Braces) (e : Tree) (x y : Trees) {f : Option KtType} {k m : Bool} {o : Opened} {valued : Bool} → valued ≡ false
     → Judges a b (judged cx (Checked boolean) a.locals.entries e) f
     → JudgesAll b c (by_last (all_judged cx (Each Unvalued) b.locals.entries x)) k
     → JudgesAll c d (by_last (all_judged cx (Each Unvalued) c.locals.entries y)) m
-    → IsOpened o n.number n.span (is_some f && (k && m)) (Gives unit) → OpensAs cx valued a d (If' n e x y) o
+    → IsOpened o n.number n.span (is_some f && (k && m)) (Gives unit) → OpensAs cx valued a d (If' n braces e x y) o
 unfolding judged
-opens_if cx {a} {b} {c} {d} n e x y {f} {k} {m} {o} {valued} h p q r w = record { in_such_way = in_such_way }
+opens_if cx {a} {b} {c} {d} n braces e x y {f} {k} {m} {o} {valued} h p q r w = record { in_such_way = in_such_way; such_tree = ap is_tree w }
   where
-    in_such_way : (way : Way) → is_valued way ≡ valued → OpensIn a d (judged cx way a.locals.entries (If' n e x y)) cx.classes way o
-    in_such_way Unvalued v = opens_in cx (If' n e x y) n (if_parts cx a.locals.entries e x y) (Gives unit) Unvalued refl (parts_of_if cx e x y p q r) refl w
+    in_such_way : (way : Way) → is_valued way ≡ valued → OpensIn a d (judged cx way a.locals.entries (If' n braces e x y)) cx.classes way o
+    in_such_way Unvalued v = opens_in cx (If' n braces e x y) n (if_parts cx a.locals.entries e x y) (Gives unit) Unvalued refl (parts_of_if cx e x y p q r) refl w
     in_such_way Plain v = absurd (false≢true (sym (v ∙ h)))
     in_such_way Inferred v = absurd (false≢true (sym (v ∙ h)))
     in_such_way (Checked t) v = absurd (false≢true (sym (v ∙ h)))
@@ -185,15 +185,23 @@ unfolding judged
 opens_sign cx {a} {b} n sign t p q =
     opens cx (Operation' n (Sign' sign) (First' t Empty')) n (all_judged cx (Each (Checked int)) a.locals.entries (First' t Empty')) (Gives int) (λ way. refl) (one cx t (Each (Checked int)) p) refl q
 
--- an operation that is not open
-pub opens_parts : (cx : TypeContext) {a b : Notes} (n : Mark) (operation : Operation) (parts : Trees) {k : Bool} {o : Opened}
-    → ((text apart : Bool) → operation_demand n operation text apart (count parts) ≡ shut n)
-    → JudgesAll a b (all_judged cx (Each Inferred) a.locals.entries parts) k → IsOpened o n.number n.span k (Breaks Syntax n.span) → Opens cx a b (Operation' n operation parts) o
+-- a string: as many parts are inserted as have places among its texts
+inserted_in_places : (ps : List Piece) → count (inserted_of ps) ≡ places (texts_of ps)
+inserted_in_places [] = refl
+inserted_in_places (Text' bytes ∷ ps) = inserted_in_places ps
+inserted_in_places (Inserted' t ∷ ps) = ap suc (inserted_in_places ps)
+
+string_demand : (n : Mark) (ps : List Piece) → demand_if (count (inserted_of ps) == places (texts_of ps)) n (Each Plain) string ≡ record { ways = Each Plain; claim = Gives string }
+string_demand n ps = ap (λ b. demand_if b n (Each Plain) string) (eq-eqb (count (inserted_of ps)) (places (texts_of ps)) (inserted_in_places ps))
+
+pub opens_template : (cx : TypeContext) {a b : Notes} (n : Mark) (ps : List Piece) {k : Bool} {o : Opened}
+    → JudgesAll a b (all_judged cx (Each Plain) a.locals.entries (inserted_of ps)) k → IsOpened o n.number n.span k (Gives string) → Opens cx a b (Operation' n (Template' (texts_of ps)) (inserted_of ps)) o
 unfolding judged
-opens_parts cx {a} {b} n operation parts e p q =
+opens_template cx {a} {b} n ps p q =
     let L = a.locals.entries in
-    opens cx (Operation' n operation parts) n (all_judged cx (Each Inferred) L parts) (Breaks Syntax n.span)
-    (λ way. ap (λ d. closed cx way n (all_judged cx d.ways L parts) d.claim) (e (is_text (first_of (all_judged cx (Each Inferred) L parts).each_found)) (apart (all_judged cx (Each Plain) L parts).each_found))) p refl q
+    let parts = inserted_of ps in
+    opens cx (Operation' n (Template' (texts_of ps)) parts) n (all_judged cx (Each Plain) L parts) (Gives string)
+    (λ way. ap (λ d. closed cx way n (all_judged cx d.ways L parts) d.claim) (string_demand n ps)) p refl q
 
 -- an operator
 ways_are : (cx : TypeContext) (L : LocalTypes) (n : Mark) (operator : Option Operator) (t u : Tree)

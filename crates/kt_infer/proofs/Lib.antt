@@ -1,7 +1,9 @@
 pub mod Supers
 pub mod Passing
+pub mod BlockEnds
 pub mod Ends
 pub mod Forms
 pub mod OtherNames
 pub mod Whole
 pub mod WaysFrom
+pub mod Loops

@@ -1,13 +1,13 @@
 -- How what is said of parts is put together.
-use Rattle.std.proofs.Common.{◌≡◌, ℕ, suc, ◌<◌, ◌&&◌, drop, drop-cons, get_or, Bool, true, false, List, [], ◌∷◌, ◌++◌, length, map, Option, Some, None, is_some, refl, sym, ap, ◌∙◌, subst, append_assoc, append-nil}
+use Rattle.std.proofs.Common.{◌≡◌, ℕ, ◌&&◌, ◌||◌, Bool, true, false, not, List, [], ◌∷◌, ◌++◌, Option, Some, None, is_some, refl, sym, ap, ◌∙◌, subst, append_assoc, append-nil}
 use Rattle.std.proofs.lemmas.Bool.{false≢true}
 use Rattle.kt_tree.specs.declared.token.Span.{Span}
 use Rattle.kt_tree.specs.declared.ast.body.Expr.{Expr}
-use Rattle.kt_tree.specs.declared.ast.body.Stmt.{Stmt}
-use Rattle.kt_tree.specs.declared.ast.body.StringPart.{StringPart}
+use Rattle.kt_tree.specs.declared.ast.part.Assignment.{Assignment}
 use Rattle.kt_model.specs.declared.uses.Named.{Named}
-use Rattle.kt_model.specs.BodyTrees.{Tree, Trees, Mark, whole, Paren', Empty', First', Piece, Text', Inserted', inserted_of, Seen, seen, seen_trees, seen_optional, listed, expr_tree, stmt_tree, piece}
-use Rattle.kt_typing.specs.Typing.{TypeContext, LocalTypes, Ways, Each, Then, first_way, rest_ways, Judgement, Judgements, no_trees, in_front, alone, closed, outcome, type_in, finding_in, have_types, judged, all_judged, inside, old_value, last_of, count, first_of, branch_way, joined_claim}
+use Rattle.kt_model.specs.BodyTrees.{Tree, Trees, Mark, whole, Paren', Empty', First', Piece, Text', Inserted', inserted_of, Seen, seen_optional, expr_tree, assign_tree}
+use Rattle.kt_typing.specs.Typing.{TypeContext, LocalTypes, Ways, Each, Then, first_way, rest_ways, Judgement, Judgements, no_trees, in_front, alone, closed, outcome, type_in, finding_in, have_types, judged, all_judged, inside, old_value, last_of, count, first_of, branch_way, joined_claim, unit, has_nothing}
+use Rattle.kt_model.specs.Scopes.{is_nothing_head}
 use Rattle.kt_model.specs.Classes.{Classes}
 use Rattle.kt_model.specs.declared.kinds.KtType.{KtType}
 use Rattle.kt_typing.specs.declared.claims.Way.{Way}
@@ -15,10 +15,10 @@ use Rattle.kt_typing.specs.declared.claims.Way.TheVariants.{Unvalued, Plain, Inf
 use Rattle.kt_typing.specs.declared.claims.Claim.{Claim}
 use Rattle.kt_typing.specs.declared.claims.Outcome.{Outcome}
 use Rattle.kt_typing.specs.declared.claims.Claim.TheVariants.{Gives, Breaks, Lacks}
-use Rattle.kt_infer.specs.Noting.{Keeps, Judges, JudgesAll, OpensIn, Opens, OpensAs, Closes, Continues, ContinuesBranch, is_valued, by_last, ends_typed}
-use Rattle.kt_infer.specs.Opening.{IsOpened, stem_of, enclosed_by, end_of, ends_of, outcome_of, rows_of, rows_behind, rows_within, findings_behind, findings_within}
+use Rattle.kt_infer.specs.Noting.{Keeps, Judges, JudgesAll, JudgesLeading, OpensIn, Opens, OpensAs, Closes, Continues, ContinuesBranch, ContinuesLeading, is_valued, by_last, ends_typed}
+use Rattle.kt_infer.specs.Opening.{IsOpened, is_tree, stem_of, enclosed_by, end_of, ends_of, outcome_of, rows_of, rows_behind, rows_within, findings_behind, findings_within}
 use Rattle.kt_infer.specs.declared.notes.Notes.{Notes}
-use Rattle.kt_infer.specs.declared.notes.Opened.{Opened, Alone, Joined', Absent}
+use Rattle.kt_infer.specs.declared.notes.Opened.{Opened, Alone, Joined', EmptyBlock, Ended, Absent}
 
 -- the same under other names
 pub same_tree : {cx : TypeContext} {a b : Notes} {t u : Tree} {o : Opened} → u ≡ t → Opens cx a b t o → Opens cx a b u o
@@ -26,7 +26,7 @@ same_tree {cx} {a} {b} {t} {u} {o} e w = subst (λ r. Opens cx a b r o) (sym e) 
 
 -- in every way, so in those where the value is taken, or not
 pub every : {cx : TypeContext} {a b : Notes} {t u : Tree} {o : Opened} (valued : Bool) → u ≡ t → Opens cx a b t o → OpensAs cx valued a b u o
-every {cx} {a} {b} {t} {u} {o} valued e p = let w : Opens cx a b u o = same_tree e p in record { in_such_way = λ way k. w.in_way way }
+every {cx} {a} {b} {t} {u} {o} valued e p = let w : Opens cx a b u o = same_tree e p in record { in_such_way = λ way k. w.in_way way; such_tree = p.open_tree }
 
 pub same_such : {cx : TypeContext} {a b : Notes} {t u : Tree} {o : Opened} {valued : Bool} → u ≡ t → OpensAs cx valued a b t o → OpensAs cx valued a b u o
 same_such {cx} {a} {b} {t} {u} {o} {valued} e w = subst (λ r. OpensAs cx valued a b r o) (sym e) w
@@ -111,6 +111,8 @@ no_end e = false≢true (ap is_empty e)
 pub typed_end : (o : Opened) (r : Outcome) (f : Option KtType) → f ∷ [] ≡ end_of o r → f ≡ type_in r
 typed_end (Alone stem claim) r f e = ap first_of e
 typed_end (Joined' stem u x between v y) r f e = ap first_of e
+typed_end (EmptyBlock at) r f e = ap first_of e
+typed_end (Ended found) r f e = ap first_of e
 typed_end Absent r f e = absurd (no_end e)
 
 pub ends : {cx : TypeContext} {a b c : Notes} {t : Tree} {o : Opened} {f : Option KtType} {valued : Bool} (way : Way) → is_valued way ≡ valued
@@ -176,7 +178,7 @@ opens_in cx {a} {b} t {o} {complete} {made} n parts claim way form p m q =
 pub opens : (cx : TypeContext) {a b : Notes} (t : Tree) {o : Opened} {complete : Bool} {made : Claim} (n : Mark) (parts : Judgements) (claim : Claim)
     → ((way : Way) → judged cx way a.locals.entries t ≡ closed cx way n parts claim)
     → JudgesAll a b parts complete → made ≡ claim → IsOpened o n.number n.span complete made → Opens cx a b t o
-opens cx t n parts claim form p m q = record { in_way = λ way. opens_in cx t n parts claim way (form way) p m q }
+opens cx t n parts claim form p m q = record { in_way = λ way. opens_in cx t n parts claim way (form way) p m q; open_tree = ap is_tree q }
 
 -- ---- parentheses
 
@@ -225,26 +227,37 @@ inner_outcome classes way (Joined' stem u x between v y) k =
     ap (made (inside way)) (inner_way way)
     ∙ ap (outcome classes Plain stem.span (stem.complete && have_types (ends_of classes (branch_way way) x ++ ends_of classes (branch_way way) y)))
     (inner_claim classes way (whole stem.number stem.span) (ends_of classes (branch_way way) x) (ends_of classes (branch_way way) y))
+inner_outcome classes way (EmptyBlock at) k = same_inside classes way at true (Gives unit)
+inner_outcome classes way (Ended found) k = refl
 inner_outcome classes way Absent k = refl
 
 inner_end : (o : Opened) (k : ℕ) (r : Outcome) → end_of o r ≡ end_of (enclosed_by k o) r
 inner_end (Alone stem claim) k r = refl
 inner_end (Joined' stem u x between v y) k r = refl
+inner_end (EmptyBlock at) k r = refl
+inner_end (Ended found) k r = refl
 inner_end Absent k r = refl
+
+inner_tree : (o : Opened) (k : ℕ) → is_tree (enclosed_by k o) ≡ is_tree o
+inner_tree (Alone stem claim) k = refl
+inner_tree (Joined' stem u x between v y) k = refl
+inner_tree (EmptyBlock at) k = refl
+inner_tree (Ended found) k = refl
+inner_tree Absent k = refl
 
 -- a row behind four lists
 behind_four : {A : Type 0} (xs ys zs us vs : List A) → (xs ++ (ys ++ (zs ++ us))) ++ vs ≡ xs ++ (ys ++ (zs ++ (us ++ vs)))
 behind_four xs ys zs us vs =
     append_assoc xs (ys ++ (zs ++ us)) vs ∙ ap (λ l. xs ++ l) (append_assoc ys (zs ++ us) vs ∙ ap (λ l. ys ++ l) (append_assoc zs us vs))
 
-inner_rows : (classes : Classes) (way : Way) (o : Opened) (k : ℕ) (f : Option KtType) → f ∷ [] ≡ end_of o (outcome_of classes (inside way) o)
+inner_rows : (classes : Classes) (way : Way) (o : Opened) (k : ℕ) (f : Option KtType) → is_tree o ≡ true → f ∷ [] ≡ end_of o (outcome_of classes (inside way) o)
     → rows_behind classes (inside way) o ++ rows_of (k ∷ []) f ≡ rows_behind classes way (enclosed_by k o)
-inner_rows classes way (Alone stem claim) k f e =
+inner_rows classes way (Alone stem claim) k f h e =
     let r = outcome_of classes (inside way) (Alone stem claim) in
     ap (λ g. rows_of (stem.number ∷ stem.parens) (type_in r) ++ rows_of (k ∷ []) g) (typed_end (Alone stem claim) r f e)
     ∙ sym (rows_of-append (stem.number ∷ stem.parens) (k ∷ []) (type_in r))
     ∙ ap (λ q. rows_of (stem.number ∷ (stem.parens ++ k ∷ [])) (type_in q)) (inner_outcome classes way (Alone stem claim) k)
-inner_rows classes way (Joined' stem u x between v y) k f e =
+inner_rows classes way (Joined' stem u x between v y) k f h e =
     let r = outcome_of classes (inside way) (Joined' stem u x between v y) in
     let own = λ (w : Way) (q : Outcome). rows_within classes w x ++ (between.rows ++ (rows_within classes w y ++ rows_of (stem.number ∷ (stem.parens ++ k ∷ [])) (type_in q))) in
     behind_four (rows_within classes (branch_way (inside way)) x) between.rows (rows_within classes (branch_way (inside way)) y) (rows_of (stem.number ∷ stem.parens) (type_in r)) (rows_of (k ∷ []) f)
@@ -253,7 +266,9 @@ inner_rows classes way (Joined' stem u x between v y) k f e =
     ∙ sym (rows_of-append (stem.number ∷ stem.parens) (k ∷ []) (type_in r)))
     ∙ ap (λ w. own w r) (inner_way way)
     ∙ ap (own (branch_way way)) (inner_outcome classes way (Joined' stem u x between v y) k)
-inner_rows classes way Absent k f e = absurd (no_end e)
+inner_rows classes way (EmptyBlock at) k f h e = absurd (false≢true h)
+inner_rows classes way (Ended found) k f h e = absurd (false≢true h)
+inner_rows classes way Absent k f h e = absurd (false≢true h)
 
 inner_findings : (classes : Classes) (way : Way) (o : Opened) (k : ℕ) → findings_behind classes (inside way) o ≡ findings_behind classes way (enclosed_by k o)
 inner_findings classes way (Alone stem claim) k = ap finding_in (inner_outcome classes way (Alone stem claim) k)
@@ -261,6 +276,8 @@ inner_findings classes way (Joined' stem u x between v y) k =
     let own = λ (w : Way) (q : Outcome). findings_within classes w x ++ (between.findings.items ++ (findings_within classes w y ++ finding_in q)) in
     ap (λ w. own w (outcome_of classes (inside way) (Joined' stem u x between v y))) (inner_way way)
     ∙ ap (own (branch_way way)) (inner_outcome classes way (Joined' stem u x between v y) k)
+inner_findings classes way (EmptyBlock at) k = ap finding_in (inner_outcome classes way (EmptyBlock at) k)
+inner_findings classes way (Ended found) k = refl
 inner_findings classes way Absent k = refl
 
 pub encloses : {cx : TypeContext} {a b : Notes} {t : Tree} {o q : Opened} (n : Mark) {k : ℕ} → OpensAs cx true a b t o → n.number ≡ k → q ≡ enclosed_by k o → Opens cx a b (Paren' n t) q
@@ -278,13 +295,13 @@ encloses {cx} {a} {b} {t} {o} {q} n {k} p is e = subst (λ z. Opens cx a b (Pare
               ∙ sym (append_assoc a.rows inner.rows (rows_of (k ∷ []) inner.found))
               ∙ ap (λ l. l ++ rows_of (k ∷ []) inner.found) i.open_rows
               ∙ append_assoc b.rows (rows_behind cx.classes (inside way) o) (rows_of (k ∷ []) inner.found)
-              ∙ ap (λ l. b.rows ++ l) (inner_rows cx.classes way o k inner.found i.open_type);
+              ∙ ap (λ l. b.rows ++ l) (inner_rows cx.classes way o k inner.found p.such_tree i.open_type);
           open_findings = i.open_findings ∙ ap (λ l. b.findings.items ++ l) (inner_findings cx.classes way o k);
           open_locals = i.open_locals;
         }
 
     all_ways : Opens cx a b (Paren' n t) (enclosed_by k o)
-    all_ways = record { in_way = in_way }
+    all_ways = record { in_way = in_way; open_tree = inner_tree o k ∙ p.such_tree }
 
 -- ---- loops: what is left completes the whole
 
@@ -371,6 +388,57 @@ finish_branch cx {a} {b} {whole} {left} {k} e p = record {
   all_locals = sym (p.branch_locals ∙ ap (λ l. l.locals) e);
 }
 
+-- the statements before the last of a block
+pub begin_leading : (a : Notes) (whole : Judgements) → ContinuesLeading a a whole whole false
+begin_leading a whole = record { any_nothing = refl; more_leading_rows = refl; more_leading_findings = refl; more_leading_locals = refl }
+
+pub either_assoc : (a b c : Bool) → (a || (b || c)) ≡ ((a || b) || c)
+either_assoc true b c = refl
+either_assoc false b c = refl
+
+pub either_false : (a : Bool) → (a || false) ≡ a
+either_false true = refl
+either_false false = refl
+
+-- one of type `Nothing` is the first, or one of the others
+pub nothing_first : (f : Option KtType) (fs : List (Option KtType)) → has_nothing (f ∷ fs) ≡ (has_nothing (f ∷ []) || has_nothing fs)
+nothing_first None fs = refl
+nothing_first (Some t) fs = ap (λ b. b || has_nothing fs) (sym (either_false (is_nothing_head t.head && not t.nullable)))
+
+pub step_leading : (cx : TypeContext) {a b c : Notes} {whole left : Judgements} (t : Tree) (rest : Trees) {f : Option KtType} {k m : Bool}
+    → left ≡ all_judged cx (Each Unvalued) b.locals.entries (First' t rest)
+    → ContinuesLeading a b whole left k → Judges b c (judged cx Unvalued b.locals.entries t) f → m ≡ (k || has_nothing (f ∷ []))
+    → ContinuesLeading a c whole (all_judged cx (Each Unvalued) c.locals.entries rest) m
+unfolding judged
+step_leading cx {a} {b} {c} {whole} {left} t rest {f} {k} {m} e p q g =
+    let j = judged cx Unvalued b.locals.entries t in
+    let js = all_judged cx (Each Unvalued) c.locals.entries rest in
+    let here : left ≡ in_front j js = e ∙ ap (λ l. in_front j (all_judged cx (Each Unvalued) l rest)) (sym q.same_locals) in
+    record {
+      any_nothing =
+          p.any_nothing ∙ ap (λ l. k || has_nothing l.each_found) here ∙ ap (λ b. k || b) (nothing_first j.found js.each_found)
+          ∙ either_assoc k (has_nothing (j.found ∷ [])) (has_nothing js.each_found)
+          ∙ ap (λ r. r || has_nothing js.each_found) (ap (λ r. k || has_nothing (r ∷ [])) (sym q.same_type) ∙ sym g);
+      more_leading_rows = passed b.rows j.rows js.rows p.more_leading_rows (ap (λ l. l.rows) here) q.more_rows;
+      more_leading_findings = passed b.findings.items j.findings js.findings p.more_leading_findings (ap (λ l. l.findings) here) q.more_findings;
+      more_leading_locals = p.more_leading_locals ∙ ap (λ l. l.locals) here;
+    }
+
+pub finish_leading : (cx : TypeContext) {a b : Notes} {whole left : Judgements} {k : Bool} → left ≡ all_judged cx (Each Unvalued) b.locals.entries Empty'
+    → ContinuesLeading a b whole left k → JudgesLeading a b whole k
+unfolding judged
+finish_leading cx {a} {b} {whole} {left} {k} e p = record {
+  same_nothing = sym (p.any_nothing ∙ ap (λ l. k || has_nothing l.each_found) e ∙ either_false k);
+  leading_rows = sym (p.more_leading_rows ∙ ap (λ l. b.rows ++ l.rows) e ∙ append-nil b.rows);
+  leading_findings = sym (p.more_leading_findings ∙ ap (λ l. b.findings.items ++ l.findings) e ∙ append-nil b.findings.items);
+  leading_locals = sym (p.more_leading_locals ∙ ap (λ l. l.locals) e);
+}
+
+-- no statement before the last
+pub no_leading : (cx : TypeContext) (a : Notes) → JudgesLeading a a (all_judged cx (Each Unvalued) a.locals.entries Empty') false
+unfolding judged
+no_leading cx a = record { same_nothing = refl; leading_rows = sym (append-nil a.rows); leading_findings = sym (append-nil a.findings.items); leading_locals = refl }
+
 -- one statement, or none, is its own last
 pub one_branch : (cx : TypeContext) {a b : Notes} (t : Tree) {f : Option KtType} (ways : Ways)
     → Judges a b (judged cx (first_way ways) a.locals.entries t) f → JudgesAll a b (by_last (all_judged cx ways a.locals.entries (First' t Empty'))) (is_some f)
@@ -380,6 +448,13 @@ one_branch cx {a} {b} t {f} ways p = one cx t ways p
 pub no_branch : (cx : TypeContext) (a : Notes) (ways : Ways) → JudgesAll a a (by_last (all_judged cx ways a.locals.entries Empty')) true
 unfolding judged
 no_branch cx a ways = none a
+
+-- the statements of a branch under other names
+pub same_branch : (cx : TypeContext) {a b : Notes} {ts us : Trees} {k : Bool} → us ≡ ts → JudgesAll a b (by_last (all_judged cx (Each Unvalued) a.locals.entries ts)) k → JudgesAll a b (by_last (all_judged cx (Each Unvalued) a.locals.entries us)) k
+same_branch cx {a} {b} {ts} {us} e p = same_judgements (ap (λ l. by_last (all_judged cx (Each Unvalued) a.locals.entries l)) e) p
+
+pub same_leading : (cx : TypeContext) {a b : Notes} {ts us : Trees} {k : Bool} → us ≡ ts → JudgesLeading a b (all_judged cx (Each Unvalued) a.locals.entries ts) k → JudgesLeading a b (all_judged cx (Each Unvalued) a.locals.entries us) k
+same_leading cx {a} {b} {ts} {us} {k} e p = subst (λ r. JudgesLeading a b (all_judged cx (Each Unvalued) a.locals.entries r) k) (sym e) p
 
 pub nothing : (cx : TypeContext) (a : Notes) (ways : Ways) → JudgesAll a a (all_judged cx ways a.locals.entries Empty') true
 unfolding judged
@@ -414,23 +489,6 @@ piece_step cx {a} {b} {c} {all} {left} (Inserted' t) ps {f} {k} {m} way e h q g 
     } in
     step cx t (inserted_of ps) (Each way) e h turn (g ∙ ap (λ r. k && r) (q.same_types ∙ have_alone j.found))
 
--- ---- lists of trees, in front
-
-pub stmts_more : (uses : ℕ → Named) (xs : List Stmt) (i j : ℕ) (x : Stmt) → j < length xs → i ≡ suc j → x ≡ get_or xs j x → listed (map (stmt_tree uses) (drop j xs)) ≡ First' (stmt_tree uses x) (listed (map (stmt_tree uses) (drop i xs)))
-stmts_more uses xs i j x h e is =
-    ap (λ l. listed (map (stmt_tree uses) l)) (drop-cons xs j x h ∙ ap (λ y. y ∷ drop (suc j) xs) (sym is))
-    ∙ ap (λ k. First' (stmt_tree uses x) (listed (map (stmt_tree uses) (drop k xs)))) (sym e)
-
-pub exprs_more : (uses : ℕ → Named) (xs : List Expr) (i j : ℕ) (x : Expr) → j < length xs → i ≡ suc j → x ≡ get_or xs j x → seen_trees (map (seen uses) (drop j xs)) ≡ First' (expr_tree uses x) (seen_trees (map (seen uses) (drop i xs)))
-exprs_more uses xs i j x h e is =
-    ap (λ l. seen_trees (map (seen uses) l)) (drop-cons xs j x h ∙ ap (λ y. y ∷ drop (suc j) xs) (sym is))
-    ∙ ap (λ k. First' (expr_tree uses x) (seen_trees (map (seen uses) (drop k xs)))) (sym e)
-
-pub pieces_more : (uses : ℕ → Named) (xs : List StringPart) (i j : ℕ) (x : StringPart) → j < length xs → i ≡ suc j → x ≡ get_or xs j x → inserted_of (map (piece uses) (drop j xs)) ≡ inserted_of (piece uses x ∷ map (piece uses) (drop i xs))
-pieces_more uses xs i j x h e is =
-    ap (λ l. inserted_of (map (piece uses) l)) (drop-cons xs j x h ∙ ap (λ y. y ∷ drop (suc j) xs) (sym is))
-    ∙ ap (λ k. inserted_of (piece uses x ∷ map (piece uses) (drop k xs))) (sym e)
-
 -- a value that may not be written
 pub few : (claims : ℕ → Claim) (made : Claim) (w : Option Seen) → made ≡ claims 0 → made ≡ claims 1 → made ≡ claims (count (seen_optional w))
 few claims made None e f = e
@@ -444,3 +502,7 @@ same_old cx {a} {b} word {w} {way} {old} {local} {f} e g p =
 
 pub same_ways : (cx : TypeContext) {a b : Notes} (ts : Trees) {w way : Way} {k : Bool} → w ≡ way → JudgesAll a b (all_judged cx (Each w) a.locals.entries ts) k → JudgesAll a b (all_judged cx (Each way) a.locals.entries ts) k
 same_ways cx {a} {b} ts {w} {way} {k} e p = subst (λ v. JudgesAll a b (all_judged cx (Each v) a.locals.entries ts) k) e p
+
+-- what an assignment changes, and how, under other names
+pub assigned_as : {m k : Named} {x y : Assignment} (n : ℕ) (at : Span) (word : Option Span) (value : Option Seen) → k ≡ m → x ≡ y → assign_tree m n at word x value ≡ assign_tree k n at word y value
+assigned_as {m} {k} {x} {y} n at word value e f = ap (λ w. assign_tree w n at word x value) (sym e) ∙ ap (λ w. assign_tree k n at word w value) f

@@ -1,3 +1,4 @@
+pub mod Left
 pub mod Noting
 pub mod Opening
 pub mod Families

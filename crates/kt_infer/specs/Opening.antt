@@ -1,20 +1,21 @@
 -- What an opened tree is in a way, and what is added when it is ended in it.
-use Rattle.std.specs.Prelude.{◌≡◌, ◌++◌, ◌&&◌, ◌∷◌, [], ℕ, Bool, List, Option, Some, None, map}
+use Rattle.std.specs.Prelude.{◌≡◌, ◌++◌, ◌&&◌, ◌∷◌, [], ℕ, Bool, true, false, List, Option, Some, None, map}
 use Rattle.kt_tree.specs.declared.token.Span.{Span}
 use Rattle.kt_model.specs.Classes.{Classes}
 use Rattle.kt_model.specs.BodyTrees.{whole}
-use Rattle.kt_typing.specs.Typing.{outcome, type_in, finding_in, have_types, branch_way, joined_claim}
+use Rattle.kt_typing.specs.Typing.{outcome, claimed, type_in, finding_in, have_types, branch_way, joined_claim, unit}
 use Rattle.kt_model.specs.declared.kinds.KtType.{KtType}
 use Rattle.kt_model.specs.declared.finding.Finding.{Finding}
 use Rattle.kt_typing.specs.declared.claims.Way.{Way}
 use Rattle.kt_typing.specs.declared.claims.Way.TheVariants.{Plain}
 use Rattle.kt_typing.specs.declared.claims.Claim.{Claim}
+use Rattle.kt_typing.specs.declared.claims.Claim.TheVariants.{Gives}
 use Rattle.kt_typing.specs.declared.claims.Outcome.{Outcome}
-use Rattle.kt_typing.specs.declared.claims.Outcome.TheVariants.{Untyped}
+use Rattle.kt_typing.specs.declared.claims.Outcome.TheVariants.{Stands, Untyped}
 use Rattle.kt_typing.specs.declared.claims.TypeRow.{TypeRow}
 use Rattle.kt_infer.specs.declared.notes.Stem.{Stem}
 use Rattle.kt_infer.specs.declared.notes.Between.{Between}
-use Rattle.kt_infer.specs.declared.notes.Opened.{Opened, Alone, Joined', Absent, Row_of-Opened, end_of-Opened, more_of-Opened}
+use Rattle.kt_infer.specs.declared.notes.Opened.{Opened, Alone, Joined', EmptyBlock, Ended, Absent, Row_of-Opened, end_of-Opened, more_of-Opened}
 
 -- In `Joined'` each end stands in a row of one, behind a part that says nothing.
 
@@ -41,7 +42,17 @@ stem_in n stem = record { number = stem.number; span = stem.span; parens = stem.
 abbrev pub enclosed_by : ℕ → Opened → Opened
 enclosed_by n (Alone stem claim) = Alone (stem_in n stem) claim
 enclosed_by n (Joined' stem u a between v b) = Joined' (stem_in n stem) u a between v b
+enclosed_by n (EmptyBlock at) = EmptyBlock at
+enclosed_by n (Ended found) = Ended found
 enclosed_by n Absent = Absent
+
+-- a tree, and no other end of a branch
+abbrev pub is_tree : Opened → Bool
+is_tree (Alone stem claim) = true
+is_tree (Joined' stem u a between v b) = true
+is_tree (EmptyBlock at) = false
+is_tree (Ended found) = false
+is_tree Absent = false
 
 -- ---- what one is in a way
 
@@ -54,6 +65,8 @@ last_type (Some t) = t ∷ []
 abbrev pub end_of : Opened → Outcome → List (Option KtType)
 end_of (Alone stem claim) r = type_in r ∷ []
 end_of (Joined' stem u a between v b) r = type_in r ∷ []
+end_of (EmptyBlock at) r = type_in r ∷ []
+end_of (Ended found) r = type_in r ∷ []
 end_of Absent r = []
 
 -- an `if` by the types of what its branches end in
@@ -61,10 +74,17 @@ abbrev pub joined_outcome : Classes → Way → Stem → List (Option KtType) �
 joined_outcome classes way stem xs ys =
     outcome classes Plain stem.span (stem.complete && have_types (xs ++ ys)) (joined_claim classes way (whole stem.number stem.span) xs ys)
 
+-- what has a type already, or none
+abbrev pub typed_before : Option KtType → Outcome
+typed_before (Some t) = Stands t
+typed_before None = Untyped
+
 abbrev mutual
   pub outcome_of : Classes → Way → Opened → Outcome
   outcome_of classes way (Alone stem claim) = outcome classes way stem.span stem.complete claim
   outcome_of classes way (Joined' stem u a between v b) = joined_outcome classes way stem (ends_of classes (branch_way way) a) (ends_of classes (branch_way way) b)
+  outcome_of classes way (EmptyBlock at) = claimed classes way at (Gives unit)
+  outcome_of classes way (Ended found) = typed_before found
   outcome_of classes way Absent = Untyped
 
   pub ends_of : {m : _} → Classes → Way → Row_of-Opened m → List (Option KtType)
@@ -88,6 +108,8 @@ abbrev mutual
   rows_behind classes way (Joined' stem u a between v b) =
       rows_within classes (branch_way way) a
       ++ (between.rows ++ (rows_within classes (branch_way way) b ++ own_rows stem (type_in (outcome_of classes way (Joined' stem u a between v b)))))
+  rows_behind classes way (EmptyBlock at) = []
+  rows_behind classes way (Ended found) = []
   rows_behind classes way Absent = []
 
   pub rows_within : {m : _} → Classes → Way → Row_of-Opened m → List TypeRow
@@ -100,6 +122,8 @@ abbrev mutual
   findings_behind classes way (Joined' stem u a between v b) =
       findings_within classes (branch_way way) a
       ++ (between.findings.items ++ (findings_within classes (branch_way way) b ++ finding_in (outcome_of classes way (Joined' stem u a between v b))))
+  findings_behind classes way (EmptyBlock at) = finding_in (outcome_of classes way (EmptyBlock at))
+  findings_behind classes way (Ended found) = []
   findings_behind classes way Absent = []
 
   pub findings_within : {m : _} → Classes → Way → Row_of-Opened m → List Finding

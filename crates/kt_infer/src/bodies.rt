@@ -1,5 +1,5 @@
 //! The types and the findings of a body.
-ghost use Rattle.std.specs.Prelude.{◌≡◌, [], IfOk, OnOk, map};
+ghost use Rattle.std.specs.Prelude.{◌≡◌, [], Contains, IfOk, OnOk, map};
 ghost use Rattle.std.specs.Option.{option_copied};
 ghost use Rattle.kt_model.specs.Classes.{outlines, written};
 ghost use Rattle.kt_model.specs.NameUses.{named_at, declaration_type, function_place};
@@ -7,11 +7,12 @@ ghost use Rattle.kt_model.specs.BodyTrees.{listed};
 ghost use Rattle.kt_model.specs.Bodies.{body_trees_of, owner_parameters, owner_trees};
 ghost use Rattle.kt_model.specs.Findings.{AreFindings};
 ghost use Rattle.kt_typing.specs.Typing as spec;
-ghost use Rattle.kt_typing.specs.Typing.{IsTypingFinding, all_judged, body_judged, body_ways, owner_ways, parameter_types};
+ghost use Rattle.kt_typing.specs.Typing.{all_judged, body_judged, body_ways, owner_ways, parameter_types};
+ghost use Rattle.kt_infer.specs.Left.{is_in};
 ghost use Rattle.kt_infer.specs.Noting.{JudgesAll, Keeps, by_last, typing_of};
 
-use crate::calls::function_result;
 use crate::choices::value_way;
+use crate::context::BodyContext;
 use crate::notes::Notes;
 use indexmap::IndexMap;
 use kt_model::finding::{Findings, in_order};
@@ -39,7 +40,7 @@ fn written<'a>(body: &Body<'a>) -> (Option<&'a FunctionBody>, Option<KtType>)
     match body.owner {
         Owner::Function(f) => match body.file.functions.as_slice().get(f as usize) {
             Some(function) => match &function.body {
-                Some(written) => (Some(written), function_result(body.uses, f)),
+                Some(written) => (Some(written), body.uses.function_result(f)),
                 None => (None, None),
             },
             None => (None, None),
@@ -60,7 +61,7 @@ fn parameters<'a>(body: &Body<'a>) -> &'a [u32]
 
 impl Notes {
     /// Gives parameters their written types.
-    fn bring(&mut self, body: &Body<'_>, parameters: &[u32]) -> Result<(), NoMemory>
+    fn bring(&mut self, body: &BodyContext<'_>, parameters: &[u32]) -> Result<(), NoMemory>
         ensures { OnOk result (Keeps self.old self.new (parameter_types (typing_of body.now) self.old.locals.entries parameters.now)) }
     {
         for x in parameters {
@@ -73,7 +74,7 @@ impl Notes {
     /// Types the trees of a body; whether the last has a type.
     fn trees(
         &mut self,
-        body: &Body<'_>,
+        body: &BodyContext<'_>,
         trees: Option<&FunctionBody>,
         gives: Option<KtType>,
     ) -> Result<bool, NoMemory>
@@ -95,13 +96,13 @@ impl Notes {
     }
 }
 
-/// The types of a body's trees, in the order of the pass, and the findings of typing there: exactly those of their definition, in order. There are no casts
-/// yet. `NoMemory` where there is none for them. Each tree is typed once.
+/// The types of a body's trees, in the order of the pass, and the findings of typing there: exactly those of their definition, in order, where `left` are the
+/// numbers of the trees out of which a path leads, in any order. There are no casts yet. `NoMemory` where there is none for them. Each tree is typed once.
 #[tactic(auto, unfolding(kt_typing::specs::Typing::body_judged))]
-pub fn type_body(alloc: Global, body: &Body<'_>) -> Result<Typed, NoMemory>
-    ensures types { IfOk result (λ it. it.types ≡ (body_judged body.now.file.now (written (outlines body.now.table.now)) body.now.uses.now body.now.owner).rows) }
+pub fn type_body(alloc: Global, body: &Body<'_>, left: &[u32]) -> Result<Typed, NoMemory>
+    ensures types { IfOk result (λ it. it.types ≡ (body_judged body.now.file.now (written (outlines body.now.table.now)) body.now.uses.now (is_in left.now) body.now.owner).rows) }
     ensures casts { IfOk result (λ it. it.casts ≡ []) }
-    ensures findings { IfOk result (λ it. AreFindings (IsTypingFinding body.now.file.now (written (outlines body.now.table.now)) body.now.uses.now body.now.owner) it.findings) }
+    ensures findings { IfOk result (λ it. AreFindings (Contains (body_judged body.now.file.now (written (outlines body.now.table.now)) body.now.uses.now (is_in left.now) body.now.owner).findings) it.findings) }
 {
     let mut notes = Notes {
         alloc,
@@ -110,8 +111,14 @@ pub fn type_body(alloc: Global, body: &Body<'_>) -> Result<Typed, NoMemory>
         findings: Vec::new(alloc),
     };
     let (trees, gives) = written(body);
-    notes.bring(body, parameters(body))?;
-    notes.trees(body, trees, gives)?;
+    let context = BodyContext {
+        table: body.table,
+        uses: body.uses,
+        owner: body.owner,
+        left,
+    };
+    notes.bring(&context, parameters(body))?;
+    notes.trees(&context, trees, gives)?;
     let Notes {
         alloc: _,
         locals: _,

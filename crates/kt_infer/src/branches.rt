@@ -1,19 +1,21 @@
-//! The pass over branches and returns. Of a branch whose value is taken the last statement is opened, and ended in the way of the `if`.
-ghost use Rattle.std.specs.Prelude.{◌≡◌, ◌≤◌, IfOk, Option, length, map, option_map, take, true};
+//! The pass over branches and returns. Of a branch whose value is taken the last statement is opened, and ended in the way of the `if`, unless the branch
+//! never ends.
+ghost use Rattle.std.specs.Prelude.{◌≡◌, ◌≤◌, IfOk, Option, Some, length, map, option_map, take, true};
 ghost use Rattle.kt_tree.specs.declared.ast.body.Expr.{Expr};
 ghost use Rattle.kt_tree.specs.declared.ast.body.Branch.{Branch};
 ghost use Rattle.kt_tree.specs.declared.ast.body.ExprKind.TheVariants as kind;
 ghost use Rattle.kt_model.specs.NameUses.{named_at};
-ghost use Rattle.kt_model.specs.BodyTrees.{Return', branch_trees, expr_tree, listed, otherwise, seen, seen_optional, stmt_tree, whole};
+ghost use Rattle.kt_model.specs.BodyTrees.{Return', braces_there, branch_trees, expr_tree, listed, otherwise, seen, seen_branch, seen_optional, stmt_tree, whole};
 ghost use Rattle.kt_typing.specs.Typing.{Each, all_judged};
 ghost use Rattle.kt_infer.specs.Families.{IsNoLogic, IsNoOperand, IsNoOperation};
-ghost use Rattle.kt_infer.specs.Noting.{JudgesAll, Opens, OpensAs, OpensLast, by_last, typing_of};
+ghost use Rattle.kt_infer.specs.Noting.{JudgesAll, JudgesLeading, Opens, OpensAs, OpensEnd, OpensLast, by_last, typing_of};
 
 use crate::calls::owner_result;
-use crate::choices::{BOOLEAN, NOTHING, UNIT, bare_return, both, value_way};
+use crate::choices::{BOOLEAN, NOTHING, UNIT, bare_return, both, nothing_so_far, value_way};
+use crate::context::BodyContext;
+use crate::endings::{declared_number, never_left};
 use crate::notes::{Notes, Opened, nothing_between};
 use crate::opened::{joined_tree, opened_tree, shut};
-use kt_model::uses::Body;
 use kt_tree::ast::{Branch, Expr, ExprKind, Stmt};
 use kt_tree::{NoMemory, Span};
 use kt_typing::{Claim, Way};
@@ -22,7 +24,12 @@ use sqlite_items::Boxed;
 impl Notes {
     /// Opens an expression that chooses or leaves, or is of no form that is open.
     #[cycle(typing)]
-    pub fn choice(&mut self, body: &Body<'_>, valued: bool, e: &Expr) -> Result<Opened, NoMemory>
+    pub fn choice(
+        &mut self,
+        body: &BodyContext<'_>,
+        valued: bool,
+        e: &Expr,
+    ) -> Result<Opened, NoMemory>
         ensures { IfOk result (λ o. IsNoOperand e.now.kind → IsNoOperation e.now.kind → IsNoLogic e.now.kind → OpensAs (typing_of body.now) valued self.old self.new (expr_tree (named_at body.now.uses.now) e.now) o) }
     {
         match &e.kind {
@@ -56,7 +63,7 @@ impl Notes {
 
     /// Opens an `if` whose value is taken: what its branches end in is opened, and what is noted behind the end of the first is set aside.
     #[cycle(typing)]
-    fn joining(&mut self, body: &Body<'_>, e: &Expr) -> Result<Opened, NoMemory>
+    fn joining(&mut self, body: &BodyContext<'_>, e: &Expr) -> Result<Opened, NoMemory>
         ensures { IfOk result (λ o. (c : Expr) (x : Branch) (y : Option Branch) → e.now.kind ≡ kind.If c x y → OpensAs (typing_of body.now) true self.old self.new (expr_tree (named_at body.now.uses.now) e.now) o) }
     {
         match &e.kind {
@@ -82,12 +89,12 @@ impl Notes {
 
     /// Types the statements of a branch and opens the last, whose value is taken.
     #[cycle(typing)]
-    fn ending(&mut self, body: &Body<'_>, branch: &Branch) -> Result<Opened, NoMemory>
-        ensures { IfOk result (OpensLast (typing_of body.now) self.old self.new (branch_trees (named_at body.now.uses.now) branch.now)) }
+    fn ending(&mut self, body: &BodyContext<'_>, branch: &Branch) -> Result<Opened, NoMemory>
+        ensures { IfOk result (OpensLast (typing_of body.now) self.old self.new (seen_branch (named_at body.now.uses.now) branch.now).braces (branch_trees (named_at body.now.uses.now) branch.now)) }
     {
         match branch {
             Branch::Braced(block) => {
-                let last = self.last(body, block.statements.as_slice())?;
+                let last = self.last(body, block.span, block.statements.as_slice())?;
                 Ok(last)
             }
             Branch::Single(s) => {
@@ -101,10 +108,10 @@ impl Notes {
     #[cycle(typing)]
     fn other_ending(
         &mut self,
-        body: &Body<'_>,
+        body: &BodyContext<'_>,
         branch: &Option<Boxed<Branch>>,
     ) -> Result<Opened, NoMemory>
-        ensures { IfOk result (OpensLast (typing_of body.now) self.old self.new (otherwise (option_map (branch_trees (named_at body.now.uses.now)) branch.now))) }
+        ensures { IfOk result (OpensLast (typing_of body.now) self.old self.new (braces_there (option_map (seen_branch (named_at body.now.uses.now)) branch.now)) (otherwise (option_map (branch_trees (named_at body.now.uses.now)) branch.now))) }
     {
         match branch {
             Some(branch) => {
@@ -115,45 +122,71 @@ impl Notes {
         }
     }
 
-    /// Types statements one behind another, and opens the last, whose value is taken.
+    /// Types the statements of a block one behind another, and opens the last, whose value is taken. An empty block stands for `Unit`.
     #[cycle(typing)]
-    fn last(&mut self, body: &Body<'_>, statements: &[Stmt]) -> Result<Opened, NoMemory>
-        ensures { IfOk result (OpensLast (typing_of body.now) self.old self.new (listed (map (stmt_tree (named_at body.now.uses.now)) statements.now))) }
+    fn last(
+        &mut self,
+        body: &BodyContext<'_>,
+        braces: Span,
+        statements: &[Stmt],
+    ) -> Result<Opened, NoMemory>
+        ensures { IfOk result (OpensLast (typing_of body.now) self.old self.new (Some braces) (listed (map (stmt_tree (named_at body.now.uses.now)) statements.now))) }
     {
         match statements.split_last() {
             Some((s, before)) => {
-                self.leading(body, statements, before.len())?;
-                let last = self.statement(body, true, s)?;
+                let nothing = self.leading(body, statements, before.len())?;
+                let last = self.block_end(body, nothing, s)?;
                 Ok(last)
             }
-            None => Ok(Opened::Absent),
+            None => Ok(Opened::EmptyBlock(braces)),
         }
     }
 
-    /// Types so many statements from the first on; whether the last of them has a type.
+    /// Opens the last statement of a block, by whether one before it is of type `Nothing`. Where the block never ends the statement is ended at once: its
+    /// value need not be the one that is asked for.
+    #[cycle(typing)]
+    fn block_end(
+        &mut self,
+        body: &BodyContext<'_>,
+        nothing: bool,
+        s: &Stmt,
+    ) -> Result<Opened, NoMemory>
+        ensures { IfOk result (OpensEnd (typing_of body.now) nothing self.old self.new (stmt_tree (named_at body.now.uses.now) s.now)) }
+    {
+        let number = declared_number(body.uses, s);
+        if never_left(body.left, nothing, number) {
+            let found = self.stmt(body, s)?;
+            Ok(Opened::Ended(found))
+        } else {
+            let last = self.statement(body, true, s)?;
+            Ok(last)
+        }
+    }
+
+    /// Types so many statements from the first on; whether one of them is of type `Nothing`.
     #[cycle(typing)]
     fn leading(
         &mut self,
-        body: &Body<'_>,
+        body: &BodyContext<'_>,
         statements: &[Stmt],
         count: usize,
     ) -> Result<bool, NoMemory>
         requires { count ≤ length statements.now }
-        ensures { IfOk result (JudgesAll self.old self.new (by_last (all_judged (typing_of body.now) (Each Way.Unvalued) self.old.locals.entries (listed (map (stmt_tree (named_at body.now.uses.now)) (take count statements.now)))))) }
+        ensures { IfOk result (JudgesLeading self.old self.new (all_judged (typing_of body.now) (Each Way.Unvalued) self.old.locals.entries (listed (map (stmt_tree (named_at body.now.uses.now)) (take count statements.now))))) }
     {
-        let mut complete = true;
+        let mut nothing = false;
         for place in 0..count {
             let found = self.stmt(body, &statements[place])?;
-            complete = found.is_some();
+            nothing = nothing_so_far(nothing, found);
         }
-        Ok(complete)
+        Ok(nothing)
     }
 
     /// Opens a `return` of the function under way.
     #[cycle(typing)]
     fn leave(
         &mut self,
-        body: &Body<'_>,
+        body: &BodyContext<'_>,
         number: u32,
         span: Span,
         value: &Option<Boxed<Expr>>,
@@ -175,7 +208,7 @@ impl Notes {
 
     /// Types the statements of a branch; whether the last of them has a type.
     #[cycle(typing)]
-    fn branch(&mut self, body: &Body<'_>, branch: &Branch) -> Result<bool, NoMemory>
+    fn branch(&mut self, body: &BodyContext<'_>, branch: &Branch) -> Result<bool, NoMemory>
         ensures { IfOk result (JudgesAll self.old self.new (by_last (all_judged (typing_of body.now) (Each Way.Unvalued) self.old.locals.entries (branch_trees (named_at body.now.uses.now) branch.now)))) }
     {
         match branch {
@@ -194,7 +227,7 @@ impl Notes {
     #[cycle(typing)]
     fn otherwise(
         &mut self,
-        body: &Body<'_>,
+        body: &BodyContext<'_>,
         branch: &Option<Boxed<Branch>>,
     ) -> Result<bool, NoMemory>
         ensures { IfOk result (JudgesAll self.old self.new (by_last (all_judged (typing_of body.now) (Each Way.Unvalued) self.old.locals.entries (otherwise (option_map (branch_trees (named_at body.now.uses.now)) branch.now))))) }

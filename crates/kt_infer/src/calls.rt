@@ -2,20 +2,18 @@
 ghost use Rattle.std.specs.Prelude.{◌≡◌, ◌+◌, length, option_map, option_and_then, slice_get};
 ghost use Rattle.kt_tree.specs.declared.token.Span.{Span};
 ghost use Rattle.kt_model.specs.BodyTrees as body;
-ghost use Rattle.kt_model.specs.BuiltIns.{BuiltIn, built_in_named};
-ghost use Rattle.kt_model.specs.NameUses.{Resolved, declaration_type, function_place, parameters_at};
+ghost use Rattle.kt_model.specs.BuiltIns as model;
+ghost use Rattle.kt_model.specs.NameUses.{Resolved, declaration_type, parameters_at};
 ghost use Rattle.kt_typing.specs.Typing as spec;
 ghost use Rattle.kt_infer.specs.Demands.{as_demand, as_signature, as_ways, ways_from};
 
-use crate::choices::{UNIT, value_way};
+use crate::choices::value_way;
+use kt_model::built_ins::built_in_named;
 use kt_model::finding::Rule;
-use kt_model::kinds::{Head, KtType};
+use kt_model::kinds::KtType;
 use kt_model::uses::{Owner, Uses};
 use kt_tree::Span;
 use kt_typing::{Claim, Way};
-
-/// How many built-in functions are open: their declarations stand before those of the file's functions.
-const OPEN_BUILT_IN: usize = 2;
 
 /// The ways of arguments: one for all, or for each that of its parameter in a function of the file.
 #[derive(Clone, Copy, Debug, PartialEq, Eq)]
@@ -62,39 +60,19 @@ impl Ways {
     }
 }
 
-/// `Any?`
-const ANY: KtType = KtType {
-    head: Head::Any,
-    nullable: true,
-};
-
 /// What a call of a built-in function needs, where it is open.
 pub fn built_in_signature(name: u32) -> Option<Signature>
-    ensures { (resolved : Resolved) → option_map spec.built_in_signature (built_in_named name) ≡ option_map (as_signature resolved) result }
+    ensures { (resolved : Resolved) → option_map spec.built_in_signature (model.built_in_named name) ≡ option_map (as_signature resolved) result }
 {
-    let ways = Ways::Each(Way::Checked(ANY));
-    match name {
-        20 => Some(Signature {
-            least: 0,
-            most: 1,
-            ways,
-            result: UNIT,
+    match built_in_named(name) {
+        Some(function) => Some(Signature {
+            least: function.least as usize,
+            most: function.most as usize,
+            ways: Ways::Each(Way::Checked(function.parameter)),
+            result: function.result,
         }),
-        21 => Some(Signature {
-            least: 1,
-            most: 1,
-            ways,
-            result: UNIT,
-        }),
-        _ => None,
+        None => None,
     }
-}
-
-/// The written type of a function's result.
-pub fn function_result(uses: &Uses, function: u32) -> Option<KtType>
-    ensures { result ≡ declaration_type uses.now (function_place function) }
-{
-    uses.written(OPEN_BUILT_IN + function as usize)
 }
 
 /// The written type of the result of the function whose body it is.
@@ -102,7 +80,7 @@ pub fn owner_result(uses: &Uses, owner: Owner) -> Option<KtType>
     ensures { result ≡ spec.owner_result uses.now owner }
 {
     match owner {
-        Owner::Function(f) => function_result(uses, f),
+        Owner::Function(f) => uses.function_result(f),
         _ => None,
     }
 }
@@ -125,7 +103,7 @@ fn counted_signature(uses: &Uses, function: u32, gives: KtType) -> Signature
 pub fn function_signature(uses: &Uses, function: u32) -> Option<Signature>
     ensures { spec.signature_of uses.now function ≡ option_map (as_signature uses.now) result }
 {
-    match function_result(uses, function) {
+    match uses.function_result(function) {
         Some(gives) => Some(counted_signature(uses, function, gives)),
         None => None,
     }

@@ -1,5 +1,5 @@
 //! The choices by which a tree gets its type, where its parts have theirs.
-ghost use Rattle.std.specs.Prelude.{◌≡◌, ◌&&◌, ◌++◌, ◌∷◌, [], true, Bool, Option, is_some};
+ghost use Rattle.std.specs.Prelude.{◌≡◌, ◌&&◌, ◌||◌, ◌++◌, ◌∷◌, [], true, Bool, Option, is_some};
 ghost use Rattle.kt_tree.specs.declared.token.Span.{Span};
 ghost use Rattle.kt_model.specs.Classes.{outlines, written};
 ghost use Rattle.kt_model.specs.BodyTrees as body;
@@ -245,6 +245,23 @@ pub fn joined_complete(
         (_, Some(None)) => false,
         _ => condition,
     }
+}
+
+/// Whether a tree is of type `Nothing`.
+fn is_nothing(found: Option<KtType>) -> bool
+    ensures { result ≡ spec.has_nothing (found ∷ []) }
+{
+    match found {
+        Some(t) => matches!(t.head, Head::Nothing) && !t.nullable,
+        None => false,
+    }
+}
+
+/// Whether one of the trees is of type `Nothing`, by whether one before the last is.
+pub fn nothing_so_far(nothing: bool, found: Option<KtType>) -> bool
+    ensures { result ≡ (nothing || spec.has_nothing (found ∷ [])) }
+{
+    nothing || is_nothing(found)
 }
 
 /// The way of an operator's left operand.

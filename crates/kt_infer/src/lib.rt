@@ -6,6 +6,8 @@ mod bodies;
 mod branches;
 mod calls;
 mod choices;
+mod context;
+mod endings;
 mod notes;
 mod opened;
 mod operators;

@@ -48,7 +48,11 @@ pub enum Opened {
     Alone(Stem, Claim),
     /// An `if` whose value is taken: what its two branches end in is typed in its way too. Between is what was noted behind the end of the first.
     Joined(Stem, Boxed<Opened>, Between, Boxed<Opened>),
-    /// The end of an empty branch.
+    /// An empty block, whose value is `Unit`, by its span with the braces.
+    EmptyBlock(Span),
+    /// A tree that is ended already, with its type: the end of a block that never ends.
+    Ended(Option<KtType>),
+    /// The end of a branch that is not there.
     Absent,
 }
 

@@ -3,10 +3,11 @@ ghost use Rattle.std.specs.Prelude.{◌≡◌, ◌&&◌, ◌∷◌, ◌++◌, []
 ghost use Rattle.kt_model.specs.Classes.{outlines, written};
 ghost use Rattle.kt_typing.specs.Typing as spec;
 ghost use Rattle.kt_infer.specs.Noting.{Adds, Closes};
-ghost use Rattle.kt_infer.specs.Opening.{IsOpened, enclosed_by, end_of, findings_behind, joined_of, joined_outcome, last_type, outcome_of, rows_behind, stem_in};
+ghost use Rattle.kt_infer.specs.Opening.{IsOpened, enclosed_by, end_of, findings_behind, joined_of, joined_outcome, last_type, outcome_of, rows_behind, stem_in, typed_before};
 
 use crate::choices::{
-    branch_way, is_text, joined_claim, joined_complete, outcome, sum_operator, type_in,
+    UNIT, branch_way, claimed, is_text, joined_claim, joined_complete, outcome, sum_operator,
+    type_in,
 };
 use crate::notes::{Between, Notes, Opened, Stem};
 use kt_model::class_table::ClassTable;
@@ -75,6 +76,16 @@ fn joined(
     outcome(table, Way::Plain, stem.span, complete, claim)
 }
 
+/// What has a type already, or none.
+fn typed_before(found: Option<KtType>) -> Outcome
+    ensures { result ≡ typed_before found }
+{
+    match found {
+        Some(t) => Outcome::Stands(t),
+        None => Outcome::Untyped,
+    }
+}
+
 impl Stem {
     /// With one more pair of parentheses around it.
     fn enclosed(self, number: u32) -> Result<Stem, NoMemory>
@@ -110,6 +121,8 @@ impl Opened {
                 let stem = stem.enclosed(number)?;
                 Ok(Opened::Joined(stem, first, between, second))
             }
+            Opened::EmptyBlock(span) => Ok(Opened::EmptyBlock(span)),
+            Opened::Ended(found) => Ok(Opened::Ended(found)),
             Opened::Absent => Ok(Opened::Absent),
         }
     }
@@ -121,6 +134,8 @@ impl Opened {
         match self {
             Opened::Alone(_, _) => Some(type_in(outcome)),
             Opened::Joined(_, _, _, _) => Some(type_in(outcome)),
+            Opened::EmptyBlock(_) => Some(type_in(outcome)),
+            Opened::Ended(_) => Some(type_in(outcome)),
             Opened::Absent => None,
         }
     }
@@ -137,6 +152,8 @@ impl Opened {
                 let b = second.get().stands(table, inner);
                 joined(table, way, stem, first.get().end(a), second.get().end(b))
             }
+            Opened::EmptyBlock(span) => claimed(table, way, *span, Claim::Gives(UNIT)),
+            Opened::Ended(found) => typed_before(*found),
             Opened::Absent => Outcome::Untyped,
         }
     }
@@ -171,6 +188,12 @@ impl Notes {
                 self.note(stem, outcome)?;
                 Ok(outcome)
             }
+            Opened::EmptyBlock(span) => {
+                let outcome = claimed(table, way, *span, Claim::Gives(UNIT));
+                self.refuse(outcome)?;
+                Ok(outcome)
+            }
+            Opened::Ended(found) => Ok(typed_before(*found)),
             Opened::Absent => Ok(Outcome::Untyped),
         }
     }

@@ -8,8 +8,8 @@ ghost use Rattle.kt_infer.specs.Noting.{OpensAs, typing_of};
 use crate::choices::{
     BOOLEAN, INT, apart, arithmetic_operator, equality_claim, left_way, right_way,
 };
+use crate::context::BodyContext;
 use crate::notes::{Notes, Opened};
-use kt_model::uses::Body;
 use kt_tree::NoMemory;
 use kt_tree::ast::{Expr, ExprKind};
 use kt_typing::{Claim, Way};
@@ -17,7 +17,12 @@ use kt_typing::{Claim, Way};
 impl Notes {
     /// Opens an expression that works on the values of its parts, or one that chooses or leaves.
     #[cycle(typing)]
-    pub fn operation(&mut self, body: &Body<'_>, valued: bool, e: &Expr) -> Result<Opened, NoMemory>
+    pub fn operation(
+        &mut self,
+        body: &BodyContext<'_>,
+        valued: bool,
+        e: &Expr,
+    ) -> Result<Opened, NoMemory>
         ensures { IfOk result (λ o. IsNoOperand e.now.kind → OpensAs (typing_of body.now) valued self.old self.new (expr_tree (named_at body.now.uses.now) e.now) o) }
     {
         match &e.kind {
@@ -58,7 +63,7 @@ impl Notes {
 
     /// Opens an expression over truth values, or one that chooses or leaves.
     #[cycle(typing)]
-    fn logic(&mut self, body: &Body<'_>, valued: bool, e: &Expr) -> Result<Opened, NoMemory>
+    fn logic(&mut self, body: &BodyContext<'_>, valued: bool, e: &Expr) -> Result<Opened, NoMemory>
         ensures { IfOk result (λ o. IsNoOperand e.now.kind → IsNoOperation e.now.kind → OpensAs (typing_of body.now) valued self.old self.new (expr_tree (named_at body.now.uses.now) e.now) o) }
     {
         match &e.kind {

@@ -13,18 +13,19 @@ use crate::choices::{
     UNIT, arithmetic_operator, assign_claim, both, claimed, is_text, kept_claim, known_type,
     left_way, name_claim, right_way, sum_operator, type_in, type_or_none, value_way,
 };
+use crate::context::BodyContext;
 use crate::notes::{Notes, Opened};
 use crate::opened::{opened_tree, shut};
 use kt_model::class_table::ClassTable;
 use kt_model::finding::Rule;
 use kt_model::kinds::KtType;
-use kt_model::uses::{Body, Named};
+use kt_model::uses::Named;
 use kt_tree::ast::{Assignment, Expr, ExprKind, Stmt};
 use kt_tree::{NoMemory, Span};
 use kt_typing::{Claim, Operator, Way};
 
 /// The span of an expression that is a name alone.
-fn name_of(e: &Expr) -> Option<Span>
+pub fn name_of(e: &Expr) -> Option<Span>
     ensures { (uses : ℕ → Named) → (seen uses e.now).name ≡ result }
 {
     match &e.kind {
@@ -77,7 +78,11 @@ fn declaration_claim(
 impl Notes {
     /// Types statements one behind another; whether the last has a type.
     #[cycle(typing)]
-    pub fn statements(&mut self, body: &Body<'_>, statements: &[Stmt]) -> Result<bool, NoMemory>
+    pub fn statements(
+        &mut self,
+        body: &BodyContext<'_>,
+        statements: &[Stmt],
+    ) -> Result<bool, NoMemory>
         ensures { IfOk result (JudgesAll self.old self.new (by_last (all_judged (typing_of body.now) (Each Way.Unvalued) self.old.locals.entries (listed (map (stmt_tree (named_at body.now.uses.now)) statements.now))))) }
     {
         let mut complete = true;
@@ -90,7 +95,7 @@ impl Notes {
 
     /// Types a statement, whose value is not taken.
     #[cycle(typing)]
-    pub fn stmt(&mut self, body: &Body<'_>, s: &Stmt) -> Result<Option<KtType>, NoMemory>
+    pub fn stmt(&mut self, body: &BodyContext<'_>, s: &Stmt) -> Result<Option<KtType>, NoMemory>
         ensures { IfOk result (Judges self.old self.new (judged (typing_of body.now) Way.Unvalued self.old.locals.entries (stmt_tree (named_at body.now.uses.now) s.now))) }
     {
         let statement = self.statement(body, false, s)?;
@@ -100,7 +105,12 @@ impl Notes {
 
     /// Types the parts of a statement whose value is taken, or not.
     #[cycle(typing)]
-    pub fn statement(&mut self, body: &Body<'_>, valued: bool, s: &Stmt) -> Result<Opened, NoMemory>
+    pub fn statement(
+        &mut self,
+        body: &BodyContext<'_>,
+        valued: bool,
+        s: &Stmt,
+    ) -> Result<Opened, NoMemory>
         ensures { IfOk result (OpensAs (typing_of body.now) valued self.old self.new (stmt_tree (named_at body.now.uses.now) s.now)) }
     {
         match s {
@@ -139,7 +149,7 @@ impl Notes {
     #[cycle(typing)]
     fn local(
         &mut self,
-        body: &Body<'_>,
+        body: &BodyContext<'_>,
         number: u32,
         span: Span,
         word: Span,
@@ -174,7 +184,7 @@ impl Notes {
     #[cycle(typing)]
     fn assign(
         &mut self,
-        body: &Body<'_>,
+        body: &BodyContext<'_>,
         number: u32,
         span: Span,
         word: Option<Span>,
@@ -196,7 +206,7 @@ impl Notes {
     #[cycle(typing)]
     fn assign_name(
         &mut self,
-        body: &Body<'_>,
+        body: &BodyContext<'_>,
         number: u32,
         span: Span,
         word: Span,
@@ -228,7 +238,7 @@ impl Notes {
     #[cycle(typing)]
     fn plain(
         &mut self,
-        body: &Body<'_>,
+        body: &BodyContext<'_>,
         number: u32,
         span: Span,
         word: Span,
@@ -253,7 +263,7 @@ impl Notes {
     /// Reads the old value of a compound assignment; whether it has a type.
     fn old_value(
         &mut self,
-        body: &Body<'_>,
+        body: &BodyContext<'_>,
         way: Way,
         word: Span,
         old: Option<Option<KtType>>,
@@ -267,7 +277,12 @@ impl Notes {
 
     /// Types the written operand of a compound assignment; whether it has a type, or is not written.
     #[cycle(typing)]
-    fn operand(&mut self, body: &Body<'_>, way: Way, value: &Option<Expr>) -> Result<bool, NoMemory>
+    fn operand(
+        &mut self,
+        body: &BodyContext<'_>,
+        way: Way,
+        value: &Option<Expr>,
+    ) -> Result<bool, NoMemory>
         ensures { IfOk result (JudgesAll self.old self.new (all_judged (typing_of body.now) (Each way) self.old.locals.entries (seen_optional (option_map (seen (named_at body.now.uses.now)) value.now)))) }
     {
         match value {
@@ -283,7 +298,7 @@ impl Notes {
     #[cycle(typing)]
     fn compound(
         &mut self,
-        body: &Body<'_>,
+        body: &BodyContext<'_>,
         number: u32,
         span: Span,
         word: Span,

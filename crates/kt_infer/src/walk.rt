@@ -11,12 +11,13 @@ ghost use Rattle.kt_infer.specs.Noting.{Judges, JudgesAll, Opens, OpensAs, typin
 ghost use Rattle.kt_infer.specs.Opening.{IsOpened};
 
 use crate::calls::{Ways, built_in_signature, demanded, function_signature};
-use crate::choices::{BOOLEAN, INT, both, is_valued, name_claim, still};
+use crate::choices::{BOOLEAN, INT, STRING, both, is_valued, name_claim, still};
+use crate::context::BodyContext;
 use crate::notes::{Notes, Opened};
 use crate::opened::{opened_tree, shut};
 use kt_model::finding::Rule;
 use kt_model::kinds::KtType;
-use kt_model::uses::{Body, Named};
+use kt_model::uses::Named;
 use kt_tree::ast::{Expr, ExprKind, StringPart};
 use kt_tree::{NoMemory, Span};
 use kt_typing::{Claim, Operator, Way};
@@ -34,7 +35,12 @@ fn operator_claim(operator: Option<Operator>, span: Span) -> Claim
 impl Notes {
     /// Types an expression in its way.
     #[cycle(typing)]
-    pub fn expr(&mut self, body: &Body<'_>, way: Way, e: &Expr) -> Result<Option<KtType>, NoMemory>
+    pub fn expr(
+        &mut self,
+        body: &BodyContext<'_>,
+        way: Way,
+        e: &Expr,
+    ) -> Result<Option<KtType>, NoMemory>
         ensures { IfOk result (Judges self.old self.new (judged (typing_of body.now) way self.old.locals.entries (expr_tree (named_at body.now.uses.now) e.now))) }
     {
         let expression = self.open(body, is_valued(way), e)?;
@@ -44,7 +50,12 @@ impl Notes {
 
     /// Types the parts of an expression whose value is taken, or not.
     #[cycle(typing)]
-    pub fn open(&mut self, body: &Body<'_>, valued: bool, e: &Expr) -> Result<Opened, NoMemory>
+    pub fn open(
+        &mut self,
+        body: &BodyContext<'_>,
+        valued: bool,
+        e: &Expr,
+    ) -> Result<Opened, NoMemory>
         ensures { IfOk result (OpensAs (typing_of body.now) valued self.old self.new (expr_tree (named_at body.now.uses.now) e.now)) }
     {
         match &e.kind {
@@ -54,7 +65,7 @@ impl Notes {
             ExprKind::Name(_) => Ok(self.name(body, e.number, e.span)),
             ExprKind::Template(parts) => {
                 let complete = self.pieces(body, parts.as_slice())?;
-                let claim = Claim::Breaks(Rule::Syntax, e.span);
+                let claim = Claim::Gives(STRING);
                 Ok(opened_tree(self.alloc, e.number, e.span, complete, claim))
             }
             ExprKind::Paren(a) => {
@@ -132,7 +143,7 @@ impl Notes {
     }
 
     /// Opens a name that stands alone.
-    fn name(&self, body: &Body<'_>, number: u32, span: Span) -> Opened
+    fn name(&self, body: &BodyContext<'_>, number: u32, span: Span) -> Opened
         ensures { Opens (typing_of body.now) self.now self.now (name_tree (named_at body.now.uses.now number) number span) result }
     {
         match body.uses.named(number) {
@@ -148,7 +159,7 @@ impl Notes {
     #[cycle(typing)]
     fn arguments(
         &mut self,
-        body: &Body<'_>,
+        body: &BodyContext<'_>,
         ways: Ways,
         arguments: &[Expr],
     ) -> Result<bool, NoMemory>
@@ -167,7 +178,7 @@ impl Notes {
     #[cycle(typing)]
     fn call(
         &mut self,
-        body: &Body<'_>,
+        body: &BodyContext<'_>,
         number: u32,
         span: Span,
         word: Span,
@@ -194,8 +205,8 @@ impl Notes {
 
     /// Types what is inserted into a string; whether each part has a type.
     #[cycle(typing)]
-    fn pieces(&mut self, body: &Body<'_>, parts: &[StringPart]) -> Result<bool, NoMemory>
-        ensures { IfOk result (JudgesAll self.old self.new (all_judged (typing_of body.now) (Each Way.Inferred) self.old.locals.entries (inserted_of (map (piece (named_at body.now.uses.now)) parts.now)))) }
+    fn pieces(&mut self, body: &BodyContext<'_>, parts: &[StringPart]) -> Result<bool, NoMemory>
+        ensures { IfOk result (JudgesAll self.old self.new (all_judged (typing_of body.now) (Each Way.Plain) self.old.locals.entries (inserted_of (map (piece (named_at body.now.uses.now)) parts.now)))) }
     {
         let mut complete = true;
         for part in parts {
@@ -207,13 +218,13 @@ impl Notes {
 
     /// Types what one part of a string inserts; whether it has a type.
     #[cycle(typing)]
-    fn inserted(&mut self, body: &Body<'_>, part: &StringPart) -> Result<bool, NoMemory>
-        ensures { IfOk result (JudgesAll self.old self.new (all_judged (typing_of body.now) (Each Way.Inferred) self.old.locals.entries (inserted_of (piece (named_at body.now.uses.now) part.now ∷ [])))) }
+    fn inserted(&mut self, body: &BodyContext<'_>, part: &StringPart) -> Result<bool, NoMemory>
+        ensures { IfOk result (JudgesAll self.old self.new (all_judged (typing_of body.now) (Each Way.Plain) self.old.locals.entries (inserted_of (piece (named_at body.now.uses.now) part.now ∷ [])))) }
     {
         match part {
             StringPart::Text(_) => Ok(true),
             StringPart::Inserted(e) => {
-                let found = self.expr(body, Way::Inferred, e)?;
+                let found = self.expr(body, Way::Plain, e)?;
                 Ok(found.is_some())
             }
         }

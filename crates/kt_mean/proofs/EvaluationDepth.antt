@@ -1,5 +1,6 @@
 -- The number that bounds the depth is no part of the meaning of bodies.
-use Rattle.std.proofs.Common.{◌≡◌, ℕ, ℤ, pos, int_eq, zero, suc, ◌-◌, ◌≤◌, ◌==◌, nat_lt, Bool, true, false, Option, Some, None, if◌then◌else◌, List, [], ◌∷◌, ◌++◌, refl, sym, ap, ◌∙◌, arith}
+use Rattle.std.proofs.Common.{◌≡◌, ℕ, ℤ, pos, int_eq, zero, suc, ◌+◌, ◌-◌, ◌≤◌, ◌==◌, nat_lt, length, Bool, true, false, Option, Some, None, if◌then◌else◌, List, [], ◌∷◌, ◌++◌, refl, sym, ap, ◌∙◌, arith}
+use Rattle.std.specs.Int.{w32, int_wrapping_add}
 use Rattle.std.proofs.lemmas.Bool.{eq-eqb}
 use Rattle.kt_model.specs.declared.kinds.KtType.{KtType}
 use Rattle.kt_tree.specs.declared.ast.part.Arithmetic.{Arithmetic}
@@ -9,11 +10,12 @@ use Rattle.kt_model.specs.BodyTrees.{Operation, Int', Bool', Null', Template', S
 use Rattle.kt_mean.specs.declared.states.Value.{Value}
 use Rattle.kt_mean.specs.declared.states.Value.TheVariants as value
 use Rattle.kt_mean.specs.declared.states.Way.{Way}
-use Rattle.kt_mean.specs.declared.states.Exception.TheVariants.{DivisionByZero}
+use Rattle.kt_mean.specs.declared.states.Exception.{Exception}
+use Rattle.kt_mean.specs.declared.states.Exception.TheVariants.{DivisionByZero, FailedRequirement, FailedCheck, Error}
 use Rattle.kt_mean.specs.declared.states.Way.TheVariants as way
 use Rattle.kt_mean.specs.declared.states.Limit.TheVariants as limit
 use Rattle.kt_mean.specs.Frames.{Frame, State, Ending, Gave, Left, Over, Wrong, Outcome, Run, ◌>>=◌, ending_after, events_after, pure, leave, over, wrong, turned}
-use Rattle.kt_mean.specs.Evaluation.{Function, Program, choose, fits, is_unit, spend, read, read_value, store, write, write_over, print, text_of_value, on_one, on_two, throws, by_divisor, arithmetic_of, equal_of, truth_of, returned, println_name, print_name, built_in, operated, most_calls, begun, resume, given, ended, call_end, with_values, block_from, block, asked, truth_tree, not_tree, and_tree, or_tree, if_tree, arguments_fit, invoke, limited, called, checked, operand_or_one, tree_at, entered, eval, meaning}
+use Rattle.kt_mean.specs.Evaluation.{Function, Program, choose, fits, is_unit, spend, read, read_value, store, write, write_over, print, text_of_value, most_cells, most_text, take_cells, make_text, text_made, on_one, on_two, throws, by_divisor, arithmetic_of, sum_of, joined, has_parts, string_of, equal_of, truth_of, returned, println_name, print_name, require_name, check_name, error_name, demanded, failed, built_in, operated, most_calls, begun, resume, given, ended, call_end, with_values, block_from, block, asked, truth_tree, not_tree, and_tree, or_tree, if_tree, arguments_fit, invoke, limited, called, checked, operand_or_one, tree_at, entered, eval, meaning}
 use Rattle.kt_mean.specs.WholeRun.{start}
 use Rattle.kt_mean.specs.EvaluationLaws.{DepthIsNoPart, MeaningUnfolds, WholeIsMeaning}
 
@@ -65,6 +67,17 @@ bind_like {A} {B} k p q f g first like = record {
 still : {A : Type 0} (k : ℕ) (p : Run A) → ((s : State) → Falls s.steps (p s).ending) → Like k p p
 still k p h = record { same = λ s i. refl; falls = h }
 
+-- one evaluation after another, where neither gains steps
+bind_falls : {A B : Type 0} (s : State) (p : Run A) (f : A → Run B) → Falls s.steps (p s).ending → ((a : A) (u : State) → Falls u.steps (f a u).ending) → Falls s.steps ((p >>= f) s).ending
+unfolding ◌>>=◌
+bind_falls s p f h i = by (p s).ending h
+  where
+    by : (e : Ending _) → Falls s.steps e → Falls s.steps (ending_after e f)
+    by (Gave a u) k = falls_more s.steps u.steps (f a u).ending k (i a u)
+    by (Left w u) k = k
+    by (Over l) k = tt
+    by Wrong k = tt
+
 pure_falls : {A : Type 0} (a : A) (s : State) → Falls s.steps (pure a s).ending
 unfolding pure
 pure_falls a s = omega arith
@@ -112,12 +125,35 @@ print_falls : (s : State) (text : List ℕ) → Falls s.steps (print text s).end
 unfolding print
 print_falls s text = omega arith
 
+take_falls : (n : ℕ) (s : State) → Falls s.steps (take_cells n s).ending
+unfolding take_cells over pure
+take_falls n s = by (nat_lt most_cells (s.cells + n))
+  where
+    by : (b : Bool) → Falls {A = Unit {0}} s.steps (choose {A = Outcome (Unit {0})} b (over limit.Store s) (pure tt (record s { cells = s.cells + n }))).ending
+    by true = tt
+    by false = omega arith
+
+make_falls : (text : List ℕ) (s : State) → Falls s.steps (make_text text s).ending
+unfolding make_text over pure
+make_falls text s = by (nat_lt most_text (s.text + length text))
+  where
+    by : (b : Bool) → Falls s.steps (choose b (over limit.Text s) (pure text (record s { text = s.text + length text }))).ending
+    by true = tt
+    by false = omega arith
+
+made_falls : (text : List ℕ) (s : State) → Falls s.steps (text_made text s).ending
+made_falls text s = bind_falls s (make_text text) _ (make_falls text s) (λ t u. pure_falls (value.Text t) u)
+
+throws_falls : (e : Exception) (s : State) → Falls s.steps (throws e s).ending
+throws_falls e s = bind_falls s (take_cells 2) _ (take_falls 2 s) (λ u v. leave_falls (way.Throw e) v)
+
 one_falls : (s : State) (f : ℤ → Run Value) → ((a : ℤ) → Falls s.steps (f a s).ending) → (vs : List Value) → Falls s.steps (on_one f vs s).ending
 one_falls s f h [] = wrong_falls s
 one_falls s f h (value.Unit ∷ vs) = wrong_falls s
 one_falls s f h (value.Bool b ∷ vs) = wrong_falls s
 one_falls s f h (value.Int a ∷ []) = h a
 one_falls s f h (value.Int a ∷ v ∷ vs) = wrong_falls s
+one_falls s f h (value.Text t ∷ vs) = wrong_falls s
 
 two_falls : (s : State) (f : ℤ → ℤ → Run Value) → ((a b : ℤ) → Falls s.steps (f a b s).ending) → (vs : List Value) → Falls s.steps (on_two f vs s).ending
 two_falls s f h [] = wrong_falls s
@@ -128,12 +164,14 @@ two_falls s f h (value.Int a ∷ value.Unit ∷ vs) = wrong_falls s
 two_falls s f h (value.Int a ∷ value.Bool b ∷ vs) = wrong_falls s
 two_falls s f h (value.Int a ∷ value.Int b ∷ []) = h a b
 two_falls s f h (value.Int a ∷ value.Int b ∷ v ∷ vs) = wrong_falls s
+two_falls s f h (value.Int a ∷ value.Text t ∷ vs) = wrong_falls s
+two_falls s f h (value.Text t ∷ vs) = wrong_falls s
 
 divisor_falls : (s : State) (b : ℤ) (v : Value) → Falls s.steps (by_divisor b (pure v) s).ending
 divisor_falls s b v = by (int_eq b (pos 0))
   where
     by : (is_zero : Bool) → Falls s.steps (choose is_zero (throws DivisionByZero) (pure v) s).ending
-    by true = leave_falls (way.Throw DivisionByZero) s
+    by true = throws_falls DivisionByZero s
     by false = pure_falls v s
 
 arithmetic_falls : (s : State) (o : Arithmetic) (a b : ℤ) → Falls s.steps (arithmetic_of o a b s).ending
@@ -141,6 +179,21 @@ arithmetic_falls s arithmetic.Subtract a b = pure_falls _ s
 arithmetic_falls s arithmetic.Multiply a b = pure_falls _ s
 arithmetic_falls s arithmetic.Divide a b = divisor_falls s b _
 arithmetic_falls s arithmetic.Remainder a b = divisor_falls s b _
+
+sum_falls : (s : State) (vs : List Value) → Falls s.steps (sum_of vs s).ending
+sum_falls s [] = wrong_falls s
+sum_falls s (value.Unit ∷ vs) = wrong_falls s
+sum_falls s (value.Bool b ∷ vs) = wrong_falls s
+sum_falls s (value.Int a ∷ vs) = two_falls s (λ a b. pure (value.Int (int_wrapping_add w32 a b))) (λ a b. pure_falls (value.Int (int_wrapping_add w32 a b)) s) (value.Int a ∷ vs)
+sum_falls s (value.Text t ∷ []) = wrong_falls s
+sum_falls s (value.Text t ∷ v ∷ []) = made_falls _ s
+sum_falls s (value.Text t ∷ v ∷ w ∷ vs) = wrong_falls s
+
+string_falls : (s : State) (made : Bool) (text : Option (List ℕ)) → Falls s.steps (string_of made text s).ending
+string_falls s true None = wrong_falls s
+string_falls s false None = wrong_falls s
+string_falls s true (Some text) = made_falls text s
+string_falls s false (Some text) = pure_falls (value.Text text) s
 
 equal_falls : (s : State) (o : Equality) (vs : List Value) → Falls s.steps (equal_of o vs s).ending
 equal_falls s o [] = wrong_falls s
@@ -152,17 +205,33 @@ truth_falls : (s : State) (v : Value) → Falls s.steps (truth_of v s).ending
 truth_falls s value.Unit = no_truth_falls s
 truth_falls s (value.Bool b) = pure_falls b s
 truth_falls s (value.Int k) = no_truth_falls s
+truth_falls s (value.Text t) = no_truth_falls s
 
 returned_falls : (s : State) (vs : List Value) → Falls s.steps (returned vs s).ending
 returned_falls s [] = leave_falls _ s
 returned_falls s (v ∷ []) = leave_falls _ s
 returned_falls s (v ∷ w ∷ vs) = wrong_falls s
 
+demanded_falls : (s : State) (e : Exception) (v : Value) → Falls s.steps (demanded e v s).ending
+demanded_falls s e v = bind_falls s (truth_of v) _ (truth_falls s v) (λ holds u. choose_falls u.steps holds (pure value.Unit) (throws e) u (pure_falls value.Unit u) (throws_falls e u))
+
+text_falls : (s : State) (text : List ℕ) → Falls s.steps ((make_text text >>= (λ t. throws (Error t))) s).ending
+text_falls s text = bind_falls s (make_text text) _ (make_falls text s) (λ t u. throws_falls (Error t) u)
+
+failed_falls : (s : State) (v : Value) → Falls s.steps (failed v s).ending
+failed_falls s value.Unit = text_falls s _
+failed_falls s (value.Bool b) = text_falls s _
+failed_falls s (value.Int k) = text_falls s _
+failed_falls s (value.Text t) = throws_falls (Error t) s
+
 built_in_falls : (s : State) (name : ℕ) (vs : List Value) → Falls s.steps (built_in name vs s).ending
 built_in_falls s name [] = choose_falls s.steps (name == println_name) (print (10 ∷ [])) wrong s (print_falls s _) (wrong_falls s)
 built_in_falls s name (v ∷ []) =
-    choose_falls s.steps (name == println_name) (print (text_of_value v ++ 10 ∷ [])) (choose (name == print_name) (print (text_of_value v)) wrong) s (print_falls s _)
-    (choose_falls s.steps (name == print_name) (print (text_of_value v)) wrong s (print_falls s _) (wrong_falls s))
+    choose_falls s.steps (name == println_name) (print (text_of_value v ++ 10 ∷ [])) _ s (print_falls s _)
+    (choose_falls s.steps (name == print_name) (print (text_of_value v)) _ s (print_falls s _)
+    (choose_falls s.steps (name == require_name) (demanded FailedRequirement v) _ s (demanded_falls s FailedRequirement v)
+    (choose_falls s.steps (name == check_name) (demanded FailedCheck v) _ s (demanded_falls s FailedCheck v)
+    (choose_falls s.steps (name == error_name) (failed v) wrong s (failed_falls s v) (wrong_falls s)))))
 built_in_falls s name (v ∷ w ∷ vs) = wrong_falls s
 
 operated_falls : (s : State) (o : Operation) (vs : List Value) → Falls s.steps (operated o vs s).ending
@@ -171,9 +240,9 @@ operated_falls s (Int' k) (v ∷ vs) = wrong_falls s
 operated_falls s (Bool' b) [] = pure_falls _ s
 operated_falls s (Bool' b) (v ∷ vs) = wrong_falls s
 operated_falls s Null' vs = wrong_falls s
-operated_falls s (Template' texts) vs = wrong_falls s
+operated_falls s (Template' texts) vs = string_falls s (has_parts vs) (joined texts vs)
 operated_falls s (Sign' sign) vs = one_falls s _ (λ a. pure_falls _ s) vs
-operated_falls s Sum' vs = two_falls s _ (λ a b. pure_falls _ s) vs
+operated_falls s Sum' vs = sum_falls s vs
 operated_falls s (Arithmetic' o) vs = two_falls s _ (arithmetic_falls s o) vs
 operated_falls s (Compare' o) vs = two_falls s _ (λ a b. pure_falls _ s) vs
 operated_falls s (Equal' o) vs = equal_falls s o vs
@@ -271,7 +340,7 @@ module _ (p : Program) (k : ℕ) (go also : Tree → Run Value) (like : (t : Tre
   tree_like (Not' n e) = not_like e
   tree_like (And' n a b) = and_like a b
   tree_like (Or' n a b) = or_like a b
-  tree_like (If' n c a b) = if_like c a b
+  tree_like (If' n braces c a b) = if_like c a b
   tree_like (Declare' n x) = still k (store x None) (λ s. store_falls s x None)
   tree_like (Local' n at x e) = bind_like k _ _ _ _ (like e) (λ v. checked_like k (p.written x) v _ (still k (store x (Some v)) (λ s. store_falls s x (Some v))))
   tree_like (Assign' n at x fixed e) = bind_like k _ _ _ _ (like e) (λ v. checked_like k (p.written x) v _ (write_like k fixed x v))

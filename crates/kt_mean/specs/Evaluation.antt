@@ -1,13 +1,13 @@
 -- What each form of tree does, over the meaning `go` of its parts.
 --
--- From the Kotlin specification, "Statements", "Expressions" and "Function declaration"; that each entering of a tree costs one step, and that at most 16
--- calls are under way, is this project's own. One definition for each form; only `eval` recurses, on a number that bounds how deep trees are entered in
+-- From the Kotlin specification, "Statements", "Expressions" and "Function declaration"; that each entering of a tree costs one step, and the
+-- limits on calls, cells and texts, are this project's own. One definition for each form; only `eval` recurses, on a number that bounds how deep trees are entered in
 -- one another.
 --
 -- A wrong use is: a local that holds nothing is read; a `val` or parameter that holds a value is assigned; an operand is of another kind than its operator
 -- needs; a condition is no truth value; an argument, an assigned or a returned value lies outside the written type; a dead tree is entered; a function
 -- whose result isn't `Unit` ends without a value. There are no types in a state: what a value is, is looked at here each time, and never in the code.
-use Rattle.std.specs.Prelude.{ℕ, zero, suc, ◌+◌, ◌-◌, ◌==◌, nat_lt, ℤ, pos, int_lt, int_le, int_rem, Bool, true, false, ◌&&◌, ◌||◌, not, Option, Some, None, List, [], ◌∷◌, ◌++◌, codes, if◌then◌else◌}
+use Rattle.std.specs.Prelude.{ℕ, zero, suc, ◌+◌, ◌-◌, ◌==◌, nat_lt, ℤ, pos, int_lt, int_le, int_rem, Bool, true, false, ◌&&◌, ◌||◌, not, Option, Some, None, List, [], ◌∷◌, ◌++◌, length, bytes_eq, option_map, codes, if◌then◌else◌}
 use Rattle.std.specs.Int.{w32, int_wrapping_add, int_wrapping_sub, int_wrapping_mul, int_wrapping_div, int_wrapping_neg}
 use Rattle.std.specs.Ordering.{int_eq}
 use Rattle.std.specs.Fmt.{signed_decimal}
@@ -23,13 +23,13 @@ use Rattle.kt_model.specs.declared.kinds.KtType.{KtType}
 use Rattle.kt_model.specs.declared.kinds.Head.TheVariants as head
 use Rattle.kt_model.specs.Classes.{any}
 use Rattle.kt_model.specs.Subtypes.{class_of}
-use Rattle.kt_model.specs.BodyTrees.{Operation, Int', Bool', Sign', Sum', Arithmetic', Compare', Equal', BuiltIn', Tree, Trees, Empty', First', Operation', Name', Paren', Not', And', Or', If', Declare', Local', Assign', Compound', Call', Return', number}
+use Rattle.kt_model.specs.BodyTrees.{Operation, Int', Bool', Template', Sign', Sum', Arithmetic', Compare', Equal', BuiltIn', Tree, Trees, Empty', First', Operation', Name', Paren', Not', And', Or', If', Declare', Local', Assign', Compound', Call', Return', number}
 use Rattle.kt_mean.specs.Events.{Printed}
 use Rattle.kt_mean.specs.Frames.{Locals, no_locals, with_local, Frame, State, Ending, Gave, Left, Over, Wrong, Run, ◌>>=◌, pure, leave, over, wrong, turned}
 use Rattle.kt_mean.specs.declared.states.Value.{Value}
 use Rattle.kt_mean.specs.declared.states.Value.TheVariants as value
 use Rattle.kt_mean.specs.declared.states.Exception.{Exception}
-use Rattle.kt_mean.specs.declared.states.Exception.TheVariants.{DivisionByZero}
+use Rattle.kt_mean.specs.declared.states.Exception.TheVariants.{DivisionByZero, FailedRequirement, FailedCheck, Error}
 use Rattle.kt_mean.specs.declared.states.Way.TheVariants as way
 use Rattle.kt_mean.specs.declared.states.Limit.TheVariants as limit
 
@@ -60,6 +60,7 @@ abbrev pub class_of_value : Value → ℕ
 class_of_value value.Unit = 1
 class_of_value (value.Bool b) = 2
 class_of_value (value.Int k) = 3
+class_of_value (value.Text text) = 4
 
 -- whether a value is one of a class, which is its own or `Any`; `Nothing` has no class and no value
 abbrev pub is_of : Option ℕ → Value → Bool
@@ -81,6 +82,7 @@ text_of_value value.Unit = codes "kotlin.Unit"
 text_of_value (value.Bool true) = codes "true"
 text_of_value (value.Bool false) = codes "false"
 text_of_value (value.Int k) = signed_decimal k
+text_of_value (value.Text text) = text
 
 -- ---- steps, locals, output
 
@@ -112,6 +114,26 @@ write fixed x v = λ s. write_over fixed (s.here.locals x) x v s
 unfoldable pub print : List ℕ → Run Value
 print text = λ s. record { ending = Gave value.Unit s; events = Printed text ∷ [] }
 
+-- ---- what a run uses up: the cells of objects, and the bytes of texts
+
+-- the cells that objects may take, and the bytes that the texts which a run makes may have
+abbrev pub most_cells : ℕ
+most_cells = 1048576
+
+abbrev pub most_text : ℕ
+most_text = 16777216
+
+-- so many cells for a new object
+unfoldable pub take_cells : ℕ → Run (Unit {0})
+take_cells n = λ s. choose (nat_lt most_cells (s.cells + n)) (over limit.Store s) (pure tt (record s { cells = s.cells + n }))
+
+-- A text that the run makes. Those in the source are there.
+unfoldable pub make_text : List ℕ → Run (List ℕ)
+make_text text = λ s. choose (nat_lt most_text (s.text + length text)) (over limit.Text s) (pure text (record s { text = s.text + length text }))
+
+abbrev pub text_made : List ℕ → Run Value
+text_made text = make_text text >>= (λ t. pure (value.Text t))
+
 -- ---- operations on values; Int has 32 bits and wraps
 
 abbrev pub on_one : (ℤ → Run Value) → List Value → Run Value
@@ -126,9 +148,9 @@ abbrev pub signed : Sign → ℤ → ℤ
 signed sign.Minus a = int_wrapping_neg w32 a
 signed sign.Plus a = a
 
--- "Exceptions": what is thrown leaves the trees around it.
+-- "Exceptions": what is thrown leaves the trees around it. It is a new object, whose class has one field, its message.
 abbrev pub throws : Exception → Run Value
-throws e = leave (way.Throw e)
+throws e = take_cells 2 >>= (λ u. leave (way.Throw e))
 
 -- "Multiplicative expressions": `/` truncates towards zero, and what `%` leaves has the sign of the left operand. By zero both throw.
 abbrev pub by_divisor : ℤ → Run Value → Run Value
@@ -139,6 +161,28 @@ arithmetic_of arithmetic.Subtract a b = pure (value.Int (int_wrapping_sub w32 a 
 arithmetic_of arithmetic.Multiply a b = pure (value.Int (int_wrapping_mul w32 a b))
 arithmetic_of arithmetic.Divide a b = by_divisor b (pure (value.Int (int_wrapping_div w32 a b)))
 arithmetic_of arithmetic.Remainder a b = by_divisor b (pure (value.Int (int_rem a b)))
+
+-- "Additive expressions": `+` joins the texts of both values where the left one is a text.
+abbrev pub sum_of : List Value → Run Value
+sum_of (value.Text text ∷ v ∷ []) = text_made (text ++ text_of_value v)
+sum_of vs = on_two (λ a b. pure (value.Int (int_wrapping_add w32 a b))) vs
+
+-- "String interpolation expressions": the texts of a string, with those of its parts' values between them; None where parts and places don't agree.
+abbrev pub joined : List (Option (List ℕ)) → List Value → Option (List ℕ)
+joined [] [] = Some []
+joined (Some text ∷ rest) vs = option_map (λ t. text ++ t) (joined rest vs)
+joined (None ∷ rest) (v ∷ vs) = option_map (λ t. text_of_value v ++ t) (joined rest vs)
+joined _ _ = None
+
+abbrev pub has_parts : List Value → Bool
+has_parts [] = false
+has_parts (v ∷ vs) = true
+
+-- A string with parts is made by the run.
+abbrev pub string_of : (made : Bool) → Option (List ℕ) → Run Value
+string_of made None = wrong
+string_of true (Some text) = text_made text
+string_of false (Some text) = pure (value.Text text)
 
 -- "Comparison expressions": integers by their order.
 abbrev pub compared : Comparison → ℤ → ℤ → Bool
@@ -152,6 +196,7 @@ abbrev pub same_value : Value → Value → Bool
 same_value value.Unit value.Unit = true
 same_value (value.Bool a) (value.Bool b) = choose a b (not b)
 same_value (value.Int a) (value.Int b) = int_eq a b
+same_value (value.Text a) (value.Text b) = bytes_eq a b
 same_value _ _ = false
 
 -- what `==` and `!=` say, by whether their operands are the same
@@ -170,18 +215,49 @@ println_name = 20
 abbrev pub print_name : ℕ
 print_name = 21
 
+abbrev pub require_name : ℕ
+require_name = 23
+
+abbrev pub check_name : ℕ
+check_name = 24
+
+abbrev pub error_name : ℕ
+error_name = 25
+
+-- a condition or an operand of `!`, `&&` and `||` is a truth value
+abbrev pub truth_of : Value → Run Bool
+truth_of (value.Bool b) = pure b
+truth_of _ = wrong
+
+-- `require`, `check`
+abbrev pub demanded : Exception → Value → Run Value
+demanded e v = truth_of v >>= (λ holds. choose holds (pure value.Unit) (throws e))
+
+-- `error`: a value that is no text gets one, before its exception is there
+abbrev pub failed : Value → Run Value
+failed (value.Text text) = throws (Error text)
+failed v = make_text (text_of_value v) >>= (λ t. throws (Error t))
+
+abbrev pub built_in_of_one : ℕ → Value → Run Value
+built_in_of_one name v =
+    choose (name == println_name) (print (text_of_value v ++ 10 ∷ [])) (
+    choose (name == print_name) (print (text_of_value v)) (
+    choose (name == require_name) (demanded FailedRequirement v) (
+    choose (name == check_name) (demanded FailedCheck v) (
+    choose (name == error_name) (failed v) wrong))))
+
 abbrev pub built_in : ℕ → List Value → Run Value
 built_in name [] = choose (name == println_name) (print (10 ∷ [])) wrong
-built_in name (v ∷ []) =
-    choose (name == println_name) (print (text_of_value v ++ 10 ∷ [])) (choose (name == print_name) (print (text_of_value v)) wrong)
+built_in name (v ∷ []) = built_in_of_one name v
 built_in name _ = wrong
 
 -- The operations that are not here are not open yet.
 abbrev pub operated : Operation → List Value → Run Value
 operated (Int' k) [] = pure (value.Int (pos k))
 operated (Bool' b) [] = pure (value.Bool b)
+operated (Template' texts) vs = string_of (has_parts vs) (joined texts vs)
 operated (Sign' s) vs = on_one (λ a. pure (value.Int (signed s a))) vs
-operated Sum' vs = on_two (λ a b. pure (value.Int (int_wrapping_add w32 a b))) vs
+operated Sum' vs = sum_of vs
 operated (Arithmetic' o) vs = on_two (arithmetic_of o) vs
 operated (Compare' o) vs = on_two (λ a b. pure (value.Bool (compared o a b))) vs
 operated (Equal' o) vs = equal_of o vs
@@ -192,11 +268,6 @@ operated _ vs = wrong
 abbrev pub operand_or_one : List Value → List Value
 operand_or_one [] = value.Int (pos 1) ∷ []
 operand_or_one (v ∷ vs) = v ∷ vs
-
--- a condition or an operand of `!`, `&&` and `||` is a truth value
-abbrev pub truth_of : Value → Run Bool
-truth_of (value.Bool b) = pure b
-truth_of _ = wrong
 
 -- "Return expressions": the body is left with the value of the operand, with `Unit` where none is written.
 abbrev pub returned : List Value → Run Value
@@ -323,7 +394,7 @@ module _ (p : Program) (go : Tree → Run Value) where
   tree_at (Not' n e) = not_tree e
   tree_at (And' n a b) = and_tree a b
   tree_at (Or' n a b) = or_tree a b
-  tree_at (If' n c a b) = if_tree c a b
+  tree_at (If' n braces c a b) = if_tree c a b
   tree_at (Declare' n x) = store x None
   tree_at (Local' n at x e) = local_tree x e
   tree_at (Assign' n at x fixed e) = assign_tree x fixed e

@@ -23,12 +23,14 @@ with_local locals x o y = if nat_eq y x then o else locals y
 pub record Frame : Type 0 where
   pub locals : Locals
 
--- The frame of the call under way; how many calls are under way, that one among them; the steps left; the bytes left of the input. The frames of
--- callers wait in the recursion.
+-- The frame of the call under way; how many calls are under way, that one among them; the steps left; the cells that objects have taken, and the bytes of
+-- the texts that the run made; the bytes left of the input. The frames of callers wait in the recursion.
 pub record State : Type 0 where
   pub here : Frame
   pub calls : ℕ
   pub steps : ℕ
+  pub cells : ℕ
+  pub text : ℕ
   pub input : List ℕ
 
 pub data Ending (A : Type 0) : Type 0 where

@@ -11,7 +11,7 @@ use Rattle.kt_mean.specs.declared.states.RunEnding.{RunEnding}
 use Rattle.kt_mean.specs.declared.states.RunEnding.TheVariants as end
 
 abbrev pub start : ℕ → List ℕ → State
-start steps input = record { here = record { locals = no_locals }; calls = 0; steps = steps; input = input }
+start steps input = record { here = record { locals = no_locals }; calls = 0; steps = steps; cells = 0; text = 0; input = input }
 
 -- `main`, over the meaning `go` of its trees
 abbrev pub whole_within : Program → (Tree → Run Value) → ℕ → List ℕ → Outcome Value
@@ -24,6 +24,8 @@ whole p steps input = whole_within p (eval p steps) steps input
 abbrev pub limit_ending : Limit → RunEnding
 limit_ending limit.Steps = end.Steps
 limit_ending limit.Calls = end.Calls
+limit_ending limit.Store = end.Store
+limit_ending limit.Text = end.Text
 
 -- how a run ends that ends so; it has no end by a wrong use, and no `return` leaves a call
 abbrev pub run_ending : Ending Value → Option RunEnding

@@ -7,14 +7,14 @@ use Rattle.kt_tree.specs.declared.ast.part.Comparison.{Comparison}
 use Rattle.kt_tree.specs.declared.ast.part.Comparison.TheVariants.{Less, Greater, LessOrEqual, GreaterOrEqual}
 use Rattle.kt_tree.specs.declared.ast.part.Equality.{Equality}
 use Rattle.kt_tree.specs.declared.ast.part.Equality.TheVariants.{Equal, NotEqual}
-use Rattle.kt_model.specs.BodyTrees.{Mark, Tree, Trees, Empty', First', Int', Bool', Sign', Sum', Arithmetic', Compare', Equal', BuiltIn', Operation', Name', Not', And', Or', If', Local', Assign', Compound', Call', Return', listed}
+use Rattle.kt_model.specs.BodyTrees.{Mark, Braces, Tree, Trees, Empty', First', Int', Bool', Template', Sign', Sum', Arithmetic', Compare', Equal', BuiltIn', Operation', Name', Not', And', Or', If', Local', Assign', Compound', Call', Return', listed}
 use Rattle.kt_model.specs.declared.kinds.Head.TheVariants as head
 use Rattle.kt_mean.specs.Events.{Event, Printed}
 use Rattle.kt_mean.specs.Frames.{Outcome}
 use Rattle.kt_mean.specs.declared.states.Value.{Value}
-use Rattle.kt_mean.specs.Evaluation.{Function, Program, println_name, print_name}
+use Rattle.kt_mean.specs.Evaluation.{Function, Program, println_name, print_name, require_name, check_name, error_name}
 use Rattle.kt_mean.specs.WholeRun.{whole, run_ending}
-use Rattle.kt_mean.specs.declared.states.Exception.TheVariants.{DivisionByZero}
+use Rattle.kt_mean.specs.declared.states.Exception.TheVariants.{DivisionByZero, FailedRequirement, FailedCheck, Error}
 use Rattle.kt_mean.specs.declared.states.RunEnding.{RunEnding}
 use Rattle.kt_mean.specs.declared.states.RunEnding.TheVariants as end
 
@@ -24,6 +24,10 @@ nowhere = record { start = 0; end = 0 }
 -- trees need no numbers here
 abbrev mark : Mark
 mark = record { number = 0; span = nowhere; word = nowhere }
+
+-- nor places of their blocks
+abbrev braces : Braces
+braces = record { first = None; second = None }
 
 abbrev int : ℕ → Tree
 int k = Operation' mark (Int' k) Empty'
@@ -44,6 +48,22 @@ print e = Operation' mark (BuiltIn' print_name true) (First' e Empty')
 abbrev all_printed : List Tree → Trees
 all_printed [] = Empty'
 all_printed (e ∷ es) = First' (println e) (all_printed es)
+
+-- a string without parts
+abbrev text : (bytes : List ℕ) → Tree
+text bytes = Operation' mark (Template' (Some bytes ∷ [])) Empty'
+
+abbrev sum : Tree → Tree → Tree
+sum a b = Operation' mark Sum' (both a b)
+
+abbrev require : Tree → Tree
+require e = Operation' mark (BuiltIn' require_name true) (First' e Empty')
+
+abbrev check : Tree → Tree
+check e = Operation' mark (BuiltIn' check_name true) (First' e Empty')
+
+abbrev error : Tree → Tree
+error e = Operation' mark (BuiltIn' error_name false) (First' e Empty')
 
 -- the edges of Int
 abbrev most : Tree
@@ -68,11 +88,11 @@ abbrev equal : Equality → Tree → Tree → Tree
 equal o a b = Operation' mark (Equal' o) (both a b)
 
 abbrev if_alone : Tree → Trees → Tree
-if_alone c a = If' mark c a Empty'
+if_alone c a = If' mark braces c a Empty'
 
 -- if (c) print(1) else print(2)
 abbrev one_or_two : Tree → Tree
-one_or_two c = If' mark c (First' (print (int 1)) Empty') (First' (print (int 2)) Empty')
+one_or_two c = If' mark braces c (First' (print (int 1)) Empty') (First' (print (int 2)) Empty')
 
 abbrev unit_function : List ℕ → Trees → Function
 unit_function parameters body = record { parameters = parameters; body = body; is_expression = false; result = Some (record { head = head.Unit; nullable = false }) }
@@ -169,5 +189,30 @@ pub record WorkedRuns : Type 0 where
   pub thrown_before_a_store : Runs
       (First' (Local' mark nowhere 1 (int 1)) (both (Compound' mark nowhere 1 false (Arithmetic' Divide) (alone (int 0))) (println (Name' mark nowhere 1)))) no_other 20
       [] (Some (end.Uncaught DivisionByZero))
+  -- println("a" + 1 + true); println("" + "b")
+  pub texts_joined : Runs
+      (all_printed (sum (sum (text (codes "a")) (int 1)) (bool true) ∷ sum (text []) (text (codes "b")) ∷ [])) no_other 20
+      (line (codes "a1true") ∷ line (codes "b") ∷ []) (Some end.Done)
+  -- println("a" + "b" == "ab"); println("a" != "b"); println("a" == "ab"); println("1" == 1)
+  pub texts_compared : Runs
+      (all_printed (equal Equal (sum (text (codes "a")) (text (codes "b"))) (text (codes "ab")) ∷ equal NotEqual (text (codes "a")) (text (codes "b"))
+      ∷ equal Equal (text (codes "a")) (text (codes "ab")) ∷ equal Equal (text (codes "1")) (int 1) ∷ [])) no_other 40
+      (true_line ∷ true_line ∷ false_line ∷ false_line ∷ []) (Some end.Done)
+  -- println("${1} and ${"b"}")
+  pub strings_filled : Runs
+      (alone (println (Operation' mark (Template' (None ∷ Some (codes " and ") ∷ None ∷ [])) (both (int 1) (text (codes "b")))))) no_other 20
+      (line (codes "1 and b") ∷ []) (Some end.Done)
+  -- require(true); check(true); println(1)
+  pub demands_met : Runs (First' (require (bool true)) (both (check (bool true)) (println (int 1)))) no_other 20 (line (codes "1") ∷ []) (Some end.Done)
+  -- println(1); require(false); println(2)
+  pub demand_failed : Runs (First' (println (int 1)) (both (require (bool false)) (println (int 2)))) no_other 20 (line (codes "1") ∷ []) (Some (end.Uncaught FailedRequirement))
+  -- check(false)
+  pub check_failed : Runs (alone (check (bool false))) no_other 20 [] (Some (end.Uncaught FailedCheck))
+  -- error("no"); println(1)
+  pub error_of_a_text : Runs (both (error (text (codes "no"))) (println (int 1))) no_other 20 [] (Some (end.Uncaught (Error (codes "no"))))
+  -- error(7)
+  pub error_of_a_number : Runs (alone (error (int 7))) no_other 20 [] (Some (end.Uncaught (Error (codes "7"))))
+  -- println(1 + "a")
+  pub number_plus_text : Runs (alone (println (sum (int 1) (text (codes "a"))))) no_other 20 [] None
   -- if (1) print(1)
   pub number_as_condition : Runs (alone (if_alone (int 1) (alone (print (int 1))))) no_other 10 [] None

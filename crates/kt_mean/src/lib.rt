@@ -4,9 +4,11 @@
 
 mod evaluation_laws;
 mod states;
+mod text;
 
 pub use evaluation_laws::{
     depth_bound_is_no_part, meaning_unfolds, numbers_wrap, one_run_of_file, whole_is_meaning,
     worked_runs,
 };
 pub use states::{Exception, Limit, RunEnding, Value, Way};
+pub use text::Text;

@@ -28,204 +28,213 @@ use Rattle.kt_tree.specs.declared.ast.body.Branch.TheOpen.{Branch-F, ExprKind-F,
 use Rattle.kt_tree.specs.declared.ast.body.Branch.TheViews as v
 use Rattle.kt_tree.specs.declared.ast.body.Branch.TheFolds.{fold_out-Block, fold-roll-Expr, fold-roll-ExprKind, fold-roll-Stmt, fold-roll-Branch, fold-roll-StringPart}
 use Rattle.kt_model.specs.declared.uses.Named.{Named}
-use Rattle.kt_model.specs.BodyTrees.{Tree, Trees, Piece, Text', Inserted', Seen, SeenKind, Paren', Not', And', Or', If', Return', Throw', Shut', Empty', First', Int', Bool', Null', Template', Sign', Sum', Arithmetic', Compare', Equal', listed, otherwise, texts_of, inserted_of, seen_trees, seen_optional, plain, operation, shut, whole, named_there, name_tree, name_span, call_tree, local_tree, assign_tree, kind_step, stmt_step, branch_step, piece_step, block_step, expr_step, nothing, seen, seen_kind, stmt_tree, block_trees, branch_trees, piece, expr_tree}
+use Rattle.kt_model.specs.BodyTrees.{Tree, Trees, Piece, Text', Inserted', Seen, SeenKind, Paren', Not', And', Or', If', Return', Throw', Shut', Empty', First', Int', Bool', Null', Template', Sign', Sum', Arithmetic', Compare', Equal', listed, otherwise, texts_of, inserted_of, seen_trees, seen_optional, plain, operation, shut, whole, named_there, name_tree, name_span, call_tree, local_tree, assign_tree, kind_step, stmt_step, branch_step, piece_step, block_step, expr_step, nothing, seen, seen_kind, stmt_tree, seen_block, block_trees, seen_branch, branch_trees, if_braces, SeenBlock, piece, expr_tree}
 
 -- an expression, by its kind
 pub tree_of_kind : (uses : ℕ → Named) (x : Expr) (k : ExprKind) (f : SeenKind) → x.kind ≡ k → seen_kind uses k ≡ f → expr_tree uses x ≡ f.tree_at x.number x.span
-unfolding seen seen_kind stmt_tree block_trees branch_trees piece
+unfolding seen seen_kind stmt_tree seen_block seen_branch piece
 tree_of_kind uses x k f is step =
-    ap (λ (y : Seen). y.tree) (fold-roll-Expr Trees (Unit {0}) SeenKind Tree Piece Trees (Unit {0}) Seen (Unit {0}) (Unit {0}) (Unit {0}) branch_step nothing (kind_step uses) (stmt_step uses) piece_step block_step nothing expr_step nothing nothing nothing (record { number = x.number; span = x.span; kind = x.kind })) ∙ ap (λ j. (seen_kind uses j).tree_at x.number x.span) is ∙ ap (λ (g : SeenKind). g.tree_at x.number x.span) step
+    ap (λ (y : Seen). y.tree) (fold-roll-Expr SeenBlock (Unit {0}) SeenKind Tree Piece SeenBlock (Unit {0}) Seen (Unit {0}) (Unit {0}) (Unit {0}) branch_step nothing (kind_step uses) (stmt_step uses) piece_step block_step nothing expr_step nothing nothing nothing (record { number = x.number; span = x.span; kind = x.kind })) ∙ ap (λ j. (seen_kind uses j).tree_at x.number x.span) is ∙ ap (λ (g : SeenKind). g.tree_at x.number x.span) step
 
 -- whether it is a name alone
 pub name_of_kind : (uses : ℕ → Named) (x : Expr) (k : ExprKind) (f : SeenKind) → x.kind ≡ k → seen_kind uses k ≡ f → (seen uses x).name ≡ name_span f.is_name x.span
-unfolding seen seen_kind stmt_tree block_trees branch_trees piece
+unfolding seen seen_kind stmt_tree seen_block seen_branch piece
 name_of_kind uses x k f is step =
-    ap (λ (y : Seen). y.name) (fold-roll-Expr Trees (Unit {0}) SeenKind Tree Piece Trees (Unit {0}) Seen (Unit {0}) (Unit {0}) (Unit {0}) branch_step nothing (kind_step uses) (stmt_step uses) piece_step block_step nothing expr_step nothing nothing nothing (record { number = x.number; span = x.span; kind = x.kind })) ∙ ap (λ j. name_span (seen_kind uses j).is_name x.span) is ∙ ap (λ (g : SeenKind). name_span g.is_name x.span) step
+    ap (λ (y : Seen). y.name) (fold-roll-Expr SeenBlock (Unit {0}) SeenKind Tree Piece SeenBlock (Unit {0}) Seen (Unit {0}) (Unit {0}) (Unit {0}) branch_step nothing (kind_step uses) (stmt_step uses) piece_step block_step nothing expr_step nothing nothing nothing (record { number = x.number; span = x.span; kind = x.kind })) ∙ ap (λ j. name_span (seen_kind uses j).is_name x.span) is ∙ ap (λ (g : SeenKind). name_span g.is_name x.span) step
 
 -- an integer
 pub kind_int : (uses : ℕ → Named) (k : ℕ) → seen_kind uses (e.Int k) ≡ operation (Int' k) Empty'
-unfolding seen seen_kind stmt_tree block_trees branch_trees piece
-kind_int uses k = ap (seen_kind uses) (sym (v.rolls-Int k)) ∙ fold-roll-ExprKind Trees (Unit {0}) SeenKind Tree Piece Trees (Unit {0}) Seen (Unit {0}) (Unit {0}) (Unit {0}) branch_step nothing (kind_step uses) (stmt_step uses) piece_step block_step nothing expr_step nothing nothing nothing (ExprKind-F.Int k)
+unfolding seen seen_kind stmt_tree seen_block seen_branch piece
+kind_int uses k = ap (seen_kind uses) (sym (v.rolls-Int k)) ∙ fold-roll-ExprKind SeenBlock (Unit {0}) SeenKind Tree Piece SeenBlock (Unit {0}) Seen (Unit {0}) (Unit {0}) (Unit {0}) branch_step nothing (kind_step uses) (stmt_step uses) piece_step block_step nothing expr_step nothing nothing nothing (ExprKind-F.Int k)
 
 -- `true` or `false`
 pub kind_bool : (uses : ℕ → Named) (t : Bool) → seen_kind uses (e.Bool t) ≡ operation (Bool' t) Empty'
-unfolding seen seen_kind stmt_tree block_trees branch_trees piece
-kind_bool uses t = ap (seen_kind uses) (sym (v.rolls-Bool t)) ∙ fold-roll-ExprKind Trees (Unit {0}) SeenKind Tree Piece Trees (Unit {0}) Seen (Unit {0}) (Unit {0}) (Unit {0}) branch_step nothing (kind_step uses) (stmt_step uses) piece_step block_step nothing expr_step nothing nothing nothing (ExprKind-F.Bool t)
+unfolding seen seen_kind stmt_tree seen_block seen_branch piece
+kind_bool uses t = ap (seen_kind uses) (sym (v.rolls-Bool t)) ∙ fold-roll-ExprKind SeenBlock (Unit {0}) SeenKind Tree Piece SeenBlock (Unit {0}) Seen (Unit {0}) (Unit {0}) (Unit {0}) branch_step nothing (kind_step uses) (stmt_step uses) piece_step block_step nothing expr_step nothing nothing nothing (ExprKind-F.Bool t)
 
 -- `null`
 pub kind_null : (uses : ℕ → Named) → seen_kind uses e.Null ≡ operation Null' Empty'
-unfolding seen seen_kind stmt_tree block_trees branch_trees piece
-kind_null uses = ap (seen_kind uses) (sym v.rolls-Null) ∙ fold-roll-ExprKind Trees (Unit {0}) SeenKind Tree Piece Trees (Unit {0}) Seen (Unit {0}) (Unit {0}) (Unit {0}) branch_step nothing (kind_step uses) (stmt_step uses) piece_step block_step nothing expr_step nothing nothing nothing ExprKind-F.Null
+unfolding seen seen_kind stmt_tree seen_block seen_branch piece
+kind_null uses = ap (seen_kind uses) (sym v.rolls-Null) ∙ fold-roll-ExprKind SeenBlock (Unit {0}) SeenKind Tree Piece SeenBlock (Unit {0}) Seen (Unit {0}) (Unit {0}) (Unit {0}) branch_step nothing (kind_step uses) (stmt_step uses) piece_step block_step nothing expr_step nothing nothing nothing ExprKind-F.Null
 
 -- a name
 pub kind_name : (uses : ℕ → Named) (x : ℕ) → seen_kind uses (e.Name x) ≡ record { tree_at = λ n at. name_tree (uses n) n at; is_name = true }
-unfolding seen seen_kind stmt_tree block_trees branch_trees piece
-kind_name uses x = ap (seen_kind uses) (sym (v.rolls-Name x)) ∙ fold-roll-ExprKind Trees (Unit {0}) SeenKind Tree Piece Trees (Unit {0}) Seen (Unit {0}) (Unit {0}) (Unit {0}) branch_step nothing (kind_step uses) (stmt_step uses) piece_step block_step nothing expr_step nothing nothing nothing (ExprKind-F.Name x)
+unfolding seen seen_kind stmt_tree seen_block seen_branch piece
+kind_name uses x = ap (seen_kind uses) (sym (v.rolls-Name x)) ∙ fold-roll-ExprKind SeenBlock (Unit {0}) SeenKind Tree Piece SeenBlock (Unit {0}) Seen (Unit {0}) (Unit {0}) (Unit {0}) branch_step nothing (kind_step uses) (stmt_step uses) piece_step block_step nothing expr_step nothing nothing nothing (ExprKind-F.Name x)
 
 -- a string
 pub kind_template : (uses : ℕ → Named) (ps : List StringPart) → seen_kind uses (e.Template ps) ≡ operation (Template' (texts_of (map (piece uses) ps))) (inserted_of (map (piece uses) ps))
-unfolding seen seen_kind stmt_tree block_trees branch_trees piece
-kind_template uses ps = ap (seen_kind uses) (sym (v.rolls-Template ps)) ∙ fold-roll-ExprKind Trees (Unit {0}) SeenKind Tree Piece Trees (Unit {0}) Seen (Unit {0}) (Unit {0}) (Unit {0}) branch_step nothing (kind_step uses) (stmt_step uses) piece_step block_step nothing expr_step nothing nothing nothing (ExprKind-F.Template ps)
+unfolding seen seen_kind stmt_tree seen_block seen_branch piece
+kind_template uses ps = ap (seen_kind uses) (sym (v.rolls-Template ps)) ∙ fold-roll-ExprKind SeenBlock (Unit {0}) SeenKind Tree Piece SeenBlock (Unit {0}) Seen (Unit {0}) (Unit {0}) (Unit {0}) branch_step nothing (kind_step uses) (stmt_step uses) piece_step block_step nothing expr_step nothing nothing nothing (ExprKind-F.Template ps)
 
 -- parentheses
 pub kind_paren : (uses : ℕ → Named) (x : Expr) → seen_kind uses (e.Paren x) ≡ plain (λ n at. Paren' (whole n at) (expr_tree uses x))
-unfolding seen seen_kind stmt_tree block_trees branch_trees piece
-kind_paren uses x = ap (seen_kind uses) (sym (v.rolls-Paren x)) ∙ fold-roll-ExprKind Trees (Unit {0}) SeenKind Tree Piece Trees (Unit {0}) Seen (Unit {0}) (Unit {0}) (Unit {0}) branch_step nothing (kind_step uses) (stmt_step uses) piece_step block_step nothing expr_step nothing nothing nothing (ExprKind-F.Paren x)
+unfolding seen seen_kind stmt_tree seen_block seen_branch piece
+kind_paren uses x = ap (seen_kind uses) (sym (v.rolls-Paren x)) ∙ fold-roll-ExprKind SeenBlock (Unit {0}) SeenKind Tree Piece SeenBlock (Unit {0}) Seen (Unit {0}) (Unit {0}) (Unit {0}) branch_step nothing (kind_step uses) (stmt_step uses) piece_step block_step nothing expr_step nothing nothing nothing (ExprKind-F.Paren x)
 
 -- a call
 pub kind_call : (uses : ℕ → Named) (f : Ident) (xs : List Expr) → seen_kind uses (e.Call f xs None) ≡ plain (λ n at. call_tree (uses n) (seen_trees (map (seen uses) xs)) (named_there n at f.span))
-unfolding seen seen_kind stmt_tree block_trees branch_trees piece
-kind_call uses f xs = ap (seen_kind uses) (sym (v.rolls-Call f xs None)) ∙ fold-roll-ExprKind Trees (Unit {0}) SeenKind Tree Piece Trees (Unit {0}) Seen (Unit {0}) (Unit {0}) (Unit {0}) branch_step nothing (kind_step uses) (stmt_step uses) piece_step block_step nothing expr_step nothing nothing nothing (ExprKind-F.Call f xs None)
+unfolding seen seen_kind stmt_tree seen_block seen_branch piece
+kind_call uses f xs = ap (seen_kind uses) (sym (v.rolls-Call f xs None)) ∙ fold-roll-ExprKind SeenBlock (Unit {0}) SeenKind Tree Piece SeenBlock (Unit {0}) Seen (Unit {0}) (Unit {0}) (Unit {0}) branch_step nothing (kind_step uses) (stmt_step uses) piece_step block_step nothing expr_step nothing nothing nothing (ExprKind-F.Call f xs None)
 
 -- a call with a lambda
 pub kind_call_with : (uses : ℕ → Named) (f : Ident) (xs : List Expr) (l : Lambda) → seen_kind uses (e.Call f xs (Some l)) ≡ shut
-unfolding seen seen_kind stmt_tree block_trees branch_trees piece
-kind_call_with uses f xs l = ap (seen_kind uses) (sym (v.rolls-Call f xs (Some l))) ∙ fold-roll-ExprKind Trees (Unit {0}) SeenKind Tree Piece Trees (Unit {0}) Seen (Unit {0}) (Unit {0}) (Unit {0}) branch_step nothing (kind_step uses) (stmt_step uses) piece_step block_step nothing expr_step nothing nothing nothing (ExprKind-F.Call f xs (Some l))
+unfolding seen seen_kind stmt_tree seen_block seen_branch piece
+kind_call_with uses f xs l = ap (seen_kind uses) (sym (v.rolls-Call f xs (Some l))) ∙ fold-roll-ExprKind SeenBlock (Unit {0}) SeenKind Tree Piece SeenBlock (Unit {0}) Seen (Unit {0}) (Unit {0}) (Unit {0}) branch_step nothing (kind_step uses) (stmt_step uses) piece_step block_step nothing expr_step nothing nothing nothing (ExprKind-F.Call f xs (Some l))
 
 -- a sign
 pub kind_sign : (uses : ℕ → Named) (o : Sign) (x : Expr) → seen_kind uses (e.Sign o x) ≡ operation (Sign' o) (First' (expr_tree uses x) Empty')
-unfolding seen seen_kind stmt_tree block_trees branch_trees piece
-kind_sign uses o x = ap (seen_kind uses) (sym (v.rolls-Sign o x)) ∙ fold-roll-ExprKind Trees (Unit {0}) SeenKind Tree Piece Trees (Unit {0}) Seen (Unit {0}) (Unit {0}) (Unit {0}) branch_step nothing (kind_step uses) (stmt_step uses) piece_step block_step nothing expr_step nothing nothing nothing (ExprKind-F.Sign o x)
+unfolding seen seen_kind stmt_tree seen_block seen_branch piece
+kind_sign uses o x = ap (seen_kind uses) (sym (v.rolls-Sign o x)) ∙ fold-roll-ExprKind SeenBlock (Unit {0}) SeenKind Tree Piece SeenBlock (Unit {0}) Seen (Unit {0}) (Unit {0}) (Unit {0}) branch_step nothing (kind_step uses) (stmt_step uses) piece_step block_step nothing expr_step nothing nothing nothing (ExprKind-F.Sign o x)
 
 -- `!`
 pub kind_not : (uses : ℕ → Named) (x : Expr) → seen_kind uses (e.Not x) ≡ plain (λ n at. Not' (whole n at) (expr_tree uses x))
-unfolding seen seen_kind stmt_tree block_trees branch_trees piece
-kind_not uses x = ap (seen_kind uses) (sym (v.rolls-Not x)) ∙ fold-roll-ExprKind Trees (Unit {0}) SeenKind Tree Piece Trees (Unit {0}) Seen (Unit {0}) (Unit {0}) (Unit {0}) branch_step nothing (kind_step uses) (stmt_step uses) piece_step block_step nothing expr_step nothing nothing nothing (ExprKind-F.Not x)
+unfolding seen seen_kind stmt_tree seen_block seen_branch piece
+kind_not uses x = ap (seen_kind uses) (sym (v.rolls-Not x)) ∙ fold-roll-ExprKind SeenBlock (Unit {0}) SeenKind Tree Piece SeenBlock (Unit {0}) Seen (Unit {0}) (Unit {0}) (Unit {0}) branch_step nothing (kind_step uses) (stmt_step uses) piece_step block_step nothing expr_step nothing nothing nothing (ExprKind-F.Not x)
 
 -- a sum
 pub kind_sum : (uses : ℕ → Named) (x : Expr) (y : Expr) → seen_kind uses (e.Sum x y) ≡ operation Sum' (First' (expr_tree uses x) (First' (expr_tree uses y) Empty'))
-unfolding seen seen_kind stmt_tree block_trees branch_trees piece
-kind_sum uses x y = ap (seen_kind uses) (sym (v.rolls-Sum x y)) ∙ fold-roll-ExprKind Trees (Unit {0}) SeenKind Tree Piece Trees (Unit {0}) Seen (Unit {0}) (Unit {0}) (Unit {0}) branch_step nothing (kind_step uses) (stmt_step uses) piece_step block_step nothing expr_step nothing nothing nothing (ExprKind-F.Sum x y)
+unfolding seen seen_kind stmt_tree seen_block seen_branch piece
+kind_sum uses x y = ap (seen_kind uses) (sym (v.rolls-Sum x y)) ∙ fold-roll-ExprKind SeenBlock (Unit {0}) SeenKind Tree Piece SeenBlock (Unit {0}) Seen (Unit {0}) (Unit {0}) (Unit {0}) branch_step nothing (kind_step uses) (stmt_step uses) piece_step block_step nothing expr_step nothing nothing nothing (ExprKind-F.Sum x y)
 
 -- arithmetic
 pub kind_arithmetic : (uses : ℕ → Named) (o : Arithmetic) (x : Expr) (y : Expr) → seen_kind uses (e.Arithmetic o x y) ≡ operation (Arithmetic' o) (First' (expr_tree uses x) (First' (expr_tree uses y) Empty'))
-unfolding seen seen_kind stmt_tree block_trees branch_trees piece
-kind_arithmetic uses o x y = ap (seen_kind uses) (sym (v.rolls-Arithmetic o x y)) ∙ fold-roll-ExprKind Trees (Unit {0}) SeenKind Tree Piece Trees (Unit {0}) Seen (Unit {0}) (Unit {0}) (Unit {0}) branch_step nothing (kind_step uses) (stmt_step uses) piece_step block_step nothing expr_step nothing nothing nothing (ExprKind-F.Arithmetic o x y)
+unfolding seen seen_kind stmt_tree seen_block seen_branch piece
+kind_arithmetic uses o x y = ap (seen_kind uses) (sym (v.rolls-Arithmetic o x y)) ∙ fold-roll-ExprKind SeenBlock (Unit {0}) SeenKind Tree Piece SeenBlock (Unit {0}) Seen (Unit {0}) (Unit {0}) (Unit {0}) branch_step nothing (kind_step uses) (stmt_step uses) piece_step block_step nothing expr_step nothing nothing nothing (ExprKind-F.Arithmetic o x y)
 
 -- a comparison
 pub kind_compare : (uses : ℕ → Named) (o : Comparison) (x : Expr) (y : Expr) → seen_kind uses (e.Compare o x y) ≡ operation (Compare' o) (First' (expr_tree uses x) (First' (expr_tree uses y) Empty'))
-unfolding seen seen_kind stmt_tree block_trees branch_trees piece
-kind_compare uses o x y = ap (seen_kind uses) (sym (v.rolls-Compare o x y)) ∙ fold-roll-ExprKind Trees (Unit {0}) SeenKind Tree Piece Trees (Unit {0}) Seen (Unit {0}) (Unit {0}) (Unit {0}) branch_step nothing (kind_step uses) (stmt_step uses) piece_step block_step nothing expr_step nothing nothing nothing (ExprKind-F.Compare o x y)
+unfolding seen seen_kind stmt_tree seen_block seen_branch piece
+kind_compare uses o x y = ap (seen_kind uses) (sym (v.rolls-Compare o x y)) ∙ fold-roll-ExprKind SeenBlock (Unit {0}) SeenKind Tree Piece SeenBlock (Unit {0}) Seen (Unit {0}) (Unit {0}) (Unit {0}) branch_step nothing (kind_step uses) (stmt_step uses) piece_step block_step nothing expr_step nothing nothing nothing (ExprKind-F.Compare o x y)
 
 -- an equality
 pub kind_equal : (uses : ℕ → Named) (o : Equality) (x : Expr) (y : Expr) → seen_kind uses (e.Equal o x y) ≡ operation (Equal' o) (First' (expr_tree uses x) (First' (expr_tree uses y) Empty'))
-unfolding seen seen_kind stmt_tree block_trees branch_trees piece
-kind_equal uses o x y = ap (seen_kind uses) (sym (v.rolls-Equal o x y)) ∙ fold-roll-ExprKind Trees (Unit {0}) SeenKind Tree Piece Trees (Unit {0}) Seen (Unit {0}) (Unit {0}) (Unit {0}) branch_step nothing (kind_step uses) (stmt_step uses) piece_step block_step nothing expr_step nothing nothing nothing (ExprKind-F.Equal o x y)
+unfolding seen seen_kind stmt_tree seen_block seen_branch piece
+kind_equal uses o x y = ap (seen_kind uses) (sym (v.rolls-Equal o x y)) ∙ fold-roll-ExprKind SeenBlock (Unit {0}) SeenKind Tree Piece SeenBlock (Unit {0}) Seen (Unit {0}) (Unit {0}) (Unit {0}) branch_step nothing (kind_step uses) (stmt_step uses) piece_step block_step nothing expr_step nothing nothing nothing (ExprKind-F.Equal o x y)
 
 -- `&&`
 pub kind_and : (uses : ℕ → Named) (x : Expr) (y : Expr) → seen_kind uses (e.And x y) ≡ plain (λ n at. And' (whole n at) (expr_tree uses x) (expr_tree uses y))
-unfolding seen seen_kind stmt_tree block_trees branch_trees piece
-kind_and uses x y = ap (seen_kind uses) (sym (v.rolls-And x y)) ∙ fold-roll-ExprKind Trees (Unit {0}) SeenKind Tree Piece Trees (Unit {0}) Seen (Unit {0}) (Unit {0}) (Unit {0}) branch_step nothing (kind_step uses) (stmt_step uses) piece_step block_step nothing expr_step nothing nothing nothing (ExprKind-F.And x y)
+unfolding seen seen_kind stmt_tree seen_block seen_branch piece
+kind_and uses x y = ap (seen_kind uses) (sym (v.rolls-And x y)) ∙ fold-roll-ExprKind SeenBlock (Unit {0}) SeenKind Tree Piece SeenBlock (Unit {0}) Seen (Unit {0}) (Unit {0}) (Unit {0}) branch_step nothing (kind_step uses) (stmt_step uses) piece_step block_step nothing expr_step nothing nothing nothing (ExprKind-F.And x y)
 
 -- `||`
 pub kind_or : (uses : ℕ → Named) (x : Expr) (y : Expr) → seen_kind uses (e.Or x y) ≡ plain (λ n at. Or' (whole n at) (expr_tree uses x) (expr_tree uses y))
-unfolding seen seen_kind stmt_tree block_trees branch_trees piece
-kind_or uses x y = ap (seen_kind uses) (sym (v.rolls-Or x y)) ∙ fold-roll-ExprKind Trees (Unit {0}) SeenKind Tree Piece Trees (Unit {0}) Seen (Unit {0}) (Unit {0}) (Unit {0}) branch_step nothing (kind_step uses) (stmt_step uses) piece_step block_step nothing expr_step nothing nothing nothing (ExprKind-F.Or x y)
+unfolding seen seen_kind stmt_tree seen_block seen_branch piece
+kind_or uses x y = ap (seen_kind uses) (sym (v.rolls-Or x y)) ∙ fold-roll-ExprKind SeenBlock (Unit {0}) SeenKind Tree Piece SeenBlock (Unit {0}) Seen (Unit {0}) (Unit {0}) (Unit {0}) branch_step nothing (kind_step uses) (stmt_step uses) piece_step block_step nothing expr_step nothing nothing nothing (ExprKind-F.Or x y)
 
 -- `if` with `else`
-pub kind_if : (uses : ℕ → Named) (c : Expr) (x : Branch) (y : Branch) → seen_kind uses (e.If c x (Some y)) ≡ plain (λ n at. If' (whole n at) (expr_tree uses c) (branch_trees uses x) (branch_trees uses y))
-unfolding seen seen_kind stmt_tree block_trees branch_trees piece
-kind_if uses c x y = ap (seen_kind uses) (sym (v.rolls-If c x (Some y))) ∙ fold-roll-ExprKind Trees (Unit {0}) SeenKind Tree Piece Trees (Unit {0}) Seen (Unit {0}) (Unit {0}) (Unit {0}) branch_step nothing (kind_step uses) (stmt_step uses) piece_step block_step nothing expr_step nothing nothing nothing (ExprKind-F.If c x (Some y))
+pub kind_if : (uses : ℕ → Named) (c : Expr) (x : Branch) (y : Branch) → seen_kind uses (e.If c x (Some y)) ≡ plain (λ n at. If' (whole n at) (if_braces uses x (Some y)) (expr_tree uses c) (branch_trees uses x) (branch_trees uses y))
+unfolding seen seen_kind stmt_tree seen_block seen_branch piece
+kind_if uses c x y = ap (seen_kind uses) (sym (v.rolls-If c x (Some y))) ∙ fold-roll-ExprKind SeenBlock (Unit {0}) SeenKind Tree Piece SeenBlock (Unit {0}) Seen (Unit {0}) (Unit {0}) (Unit {0}) branch_step nothing (kind_step uses) (stmt_step uses) piece_step block_step nothing expr_step nothing nothing nothing (ExprKind-F.If c x (Some y))
 
 -- `if` without `else`
-pub kind_if_alone : (uses : ℕ → Named) (c : Expr) (x : Branch) → seen_kind uses (e.If c x None) ≡ plain (λ n at. If' (whole n at) (expr_tree uses c) (branch_trees uses x) Empty')
-unfolding seen seen_kind stmt_tree block_trees branch_trees piece
-kind_if_alone uses c x = ap (seen_kind uses) (sym (v.rolls-If c x None)) ∙ fold-roll-ExprKind Trees (Unit {0}) SeenKind Tree Piece Trees (Unit {0}) Seen (Unit {0}) (Unit {0}) (Unit {0}) branch_step nothing (kind_step uses) (stmt_step uses) piece_step block_step nothing expr_step nothing nothing nothing (ExprKind-F.If c x None)
+pub kind_if_alone : (uses : ℕ → Named) (c : Expr) (x : Branch) → seen_kind uses (e.If c x None) ≡ plain (λ n at. If' (whole n at) (if_braces uses x None) (expr_tree uses c) (branch_trees uses x) Empty')
+unfolding seen seen_kind stmt_tree seen_block seen_branch piece
+kind_if_alone uses c x = ap (seen_kind uses) (sym (v.rolls-If c x None)) ∙ fold-roll-ExprKind SeenBlock (Unit {0}) SeenKind Tree Piece SeenBlock (Unit {0}) Seen (Unit {0}) (Unit {0}) (Unit {0}) branch_step nothing (kind_step uses) (stmt_step uses) piece_step block_step nothing expr_step nothing nothing nothing (ExprKind-F.If c x None)
 
 -- `return` with a value
 pub kind_return : (uses : ℕ → Named) (x : Expr) → seen_kind uses (e.Return None (Some x)) ≡ plain (λ n at. Return' (whole n at) (First' (expr_tree uses x) Empty'))
-unfolding seen seen_kind stmt_tree block_trees branch_trees piece
-kind_return uses x = ap (seen_kind uses) (sym (v.rolls-Return None (Some x))) ∙ fold-roll-ExprKind Trees (Unit {0}) SeenKind Tree Piece Trees (Unit {0}) Seen (Unit {0}) (Unit {0}) (Unit {0}) branch_step nothing (kind_step uses) (stmt_step uses) piece_step block_step nothing expr_step nothing nothing nothing (ExprKind-F.Return None (Some x))
+unfolding seen seen_kind stmt_tree seen_block seen_branch piece
+kind_return uses x = ap (seen_kind uses) (sym (v.rolls-Return None (Some x))) ∙ fold-roll-ExprKind SeenBlock (Unit {0}) SeenKind Tree Piece SeenBlock (Unit {0}) Seen (Unit {0}) (Unit {0}) (Unit {0}) branch_step nothing (kind_step uses) (stmt_step uses) piece_step block_step nothing expr_step nothing nothing nothing (ExprKind-F.Return None (Some x))
 
 -- `return` alone
 pub kind_return_alone : (uses : ℕ → Named) → seen_kind uses (e.Return None None) ≡ plain (λ n at. Return' (whole n at) Empty')
-unfolding seen seen_kind stmt_tree block_trees branch_trees piece
-kind_return_alone uses = ap (seen_kind uses) (sym (v.rolls-Return None None)) ∙ fold-roll-ExprKind Trees (Unit {0}) SeenKind Tree Piece Trees (Unit {0}) Seen (Unit {0}) (Unit {0}) (Unit {0}) branch_step nothing (kind_step uses) (stmt_step uses) piece_step block_step nothing expr_step nothing nothing nothing (ExprKind-F.Return None None)
+unfolding seen seen_kind stmt_tree seen_block seen_branch piece
+kind_return_alone uses = ap (seen_kind uses) (sym (v.rolls-Return None None)) ∙ fold-roll-ExprKind SeenBlock (Unit {0}) SeenKind Tree Piece SeenBlock (Unit {0}) Seen (Unit {0}) (Unit {0}) (Unit {0}) branch_step nothing (kind_step uses) (stmt_step uses) piece_step block_step nothing expr_step nothing nothing nothing (ExprKind-F.Return None None)
 
 -- `return@`
 pub kind_return_at : (uses : ℕ → Named) (l : Ident) (x : Expr) → seen_kind uses (e.Return (Some l) (Some x)) ≡ shut
-unfolding seen seen_kind stmt_tree block_trees branch_trees piece
-kind_return_at uses l x = ap (seen_kind uses) (sym (v.rolls-Return (Some l) (Some x))) ∙ fold-roll-ExprKind Trees (Unit {0}) SeenKind Tree Piece Trees (Unit {0}) Seen (Unit {0}) (Unit {0}) (Unit {0}) branch_step nothing (kind_step uses) (stmt_step uses) piece_step block_step nothing expr_step nothing nothing nothing (ExprKind-F.Return (Some l) (Some x))
+unfolding seen seen_kind stmt_tree seen_block seen_branch piece
+kind_return_at uses l x = ap (seen_kind uses) (sym (v.rolls-Return (Some l) (Some x))) ∙ fold-roll-ExprKind SeenBlock (Unit {0}) SeenKind Tree Piece SeenBlock (Unit {0}) Seen (Unit {0}) (Unit {0}) (Unit {0}) branch_step nothing (kind_step uses) (stmt_step uses) piece_step block_step nothing expr_step nothing nothing nothing (ExprKind-F.Return (Some l) (Some x))
 
 -- `return@` alone
 pub kind_return_at_alone : (uses : ℕ → Named) (l : Ident) → seen_kind uses (e.Return (Some l) None) ≡ shut
-unfolding seen seen_kind stmt_tree block_trees branch_trees piece
-kind_return_at_alone uses l = ap (seen_kind uses) (sym (v.rolls-Return (Some l) None)) ∙ fold-roll-ExprKind Trees (Unit {0}) SeenKind Tree Piece Trees (Unit {0}) Seen (Unit {0}) (Unit {0}) (Unit {0}) branch_step nothing (kind_step uses) (stmt_step uses) piece_step block_step nothing expr_step nothing nothing nothing (ExprKind-F.Return (Some l) None)
+unfolding seen seen_kind stmt_tree seen_block seen_branch piece
+kind_return_at_alone uses l = ap (seen_kind uses) (sym (v.rolls-Return (Some l) None)) ∙ fold-roll-ExprKind SeenBlock (Unit {0}) SeenKind Tree Piece SeenBlock (Unit {0}) Seen (Unit {0}) (Unit {0}) (Unit {0}) branch_step nothing (kind_step uses) (stmt_step uses) piece_step block_step nothing expr_step nothing nothing nothing (ExprKind-F.Return (Some l) None)
 
 -- `throw`
 pub kind_throw : (uses : ℕ → Named) (x : Expr) → seen_kind uses (e.Throw x) ≡ plain (λ n at. Throw' (whole n at) (expr_tree uses x))
-unfolding seen seen_kind stmt_tree block_trees branch_trees piece
-kind_throw uses x = ap (seen_kind uses) (sym (v.rolls-Throw x)) ∙ fold-roll-ExprKind Trees (Unit {0}) SeenKind Tree Piece Trees (Unit {0}) Seen (Unit {0}) (Unit {0}) (Unit {0}) branch_step nothing (kind_step uses) (stmt_step uses) piece_step block_step nothing expr_step nothing nothing nothing (ExprKind-F.Throw x)
+unfolding seen seen_kind stmt_tree seen_block seen_branch piece
+kind_throw uses x = ap (seen_kind uses) (sym (v.rolls-Throw x)) ∙ fold-roll-ExprKind SeenBlock (Unit {0}) SeenKind Tree Piece SeenBlock (Unit {0}) Seen (Unit {0}) (Unit {0}) (Unit {0}) branch_step nothing (kind_step uses) (stmt_step uses) piece_step block_step nothing expr_step nothing nothing nothing (ExprKind-F.Throw x)
 
 -- an expression as a statement
 pub stmt_expr : (uses : ℕ → Named) (x : Expr) → stmt_tree uses (s.Expr x) ≡ expr_tree uses x
-unfolding seen seen_kind stmt_tree block_trees branch_trees piece
-stmt_expr uses x = ap (stmt_tree uses) (sym (v.rolls-Expr x)) ∙ fold-roll-Stmt Trees (Unit {0}) SeenKind Tree Piece Trees (Unit {0}) Seen (Unit {0}) (Unit {0}) (Unit {0}) branch_step nothing (kind_step uses) (stmt_step uses) piece_step block_step nothing expr_step nothing nothing nothing (Stmt-F.Expr x)
+unfolding seen seen_kind stmt_tree seen_block seen_branch piece
+stmt_expr uses x = ap (stmt_tree uses) (sym (v.rolls-Expr x)) ∙ fold-roll-Stmt SeenBlock (Unit {0}) SeenKind Tree Piece SeenBlock (Unit {0}) Seen (Unit {0}) (Unit {0}) (Unit {0}) branch_step nothing (kind_step uses) (stmt_step uses) piece_step block_step nothing expr_step nothing nothing nothing (Stmt-F.Expr x)
 
 -- a local with a value
 pub stmt_local : (uses : ℕ → Named) (n : ℕ) (at : Span) (m : Bool) (i : Ident) (w : Option TypeRef) (x : Expr) → stmt_tree uses (s.Local n at m i w (Some x)) ≡ local_tree (uses n) (named_there n at i.span) (Some (seen uses x))
-unfolding seen seen_kind stmt_tree block_trees branch_trees piece
-stmt_local uses n at m i w x = ap (stmt_tree uses) (sym (v.rolls-Local n at m i w (Some x))) ∙ fold-roll-Stmt Trees (Unit {0}) SeenKind Tree Piece Trees (Unit {0}) Seen (Unit {0}) (Unit {0}) (Unit {0}) branch_step nothing (kind_step uses) (stmt_step uses) piece_step block_step nothing expr_step nothing nothing nothing (Stmt-F.Local n at m i w (Some x))
+unfolding seen seen_kind stmt_tree seen_block seen_branch piece
+stmt_local uses n at m i w x = ap (stmt_tree uses) (sym (v.rolls-Local n at m i w (Some x))) ∙ fold-roll-Stmt SeenBlock (Unit {0}) SeenKind Tree Piece SeenBlock (Unit {0}) Seen (Unit {0}) (Unit {0}) (Unit {0}) branch_step nothing (kind_step uses) (stmt_step uses) piece_step block_step nothing expr_step nothing nothing nothing (Stmt-F.Local n at m i w (Some x))
 
 -- a local without a value
 pub stmt_local_alone : (uses : ℕ → Named) (n : ℕ) (at : Span) (m : Bool) (i : Ident) (w : Option TypeRef) → stmt_tree uses (s.Local n at m i w None) ≡ local_tree (uses n) (named_there n at i.span) None
-unfolding seen seen_kind stmt_tree block_trees branch_trees piece
-stmt_local_alone uses n at m i w = ap (stmt_tree uses) (sym (v.rolls-Local n at m i w None)) ∙ fold-roll-Stmt Trees (Unit {0}) SeenKind Tree Piece Trees (Unit {0}) Seen (Unit {0}) (Unit {0}) (Unit {0}) branch_step nothing (kind_step uses) (stmt_step uses) piece_step block_step nothing expr_step nothing nothing nothing (Stmt-F.Local n at m i w None)
+unfolding seen seen_kind stmt_tree seen_block seen_branch piece
+stmt_local_alone uses n at m i w = ap (stmt_tree uses) (sym (v.rolls-Local n at m i w None)) ∙ fold-roll-Stmt SeenBlock (Unit {0}) SeenKind Tree Piece SeenBlock (Unit {0}) Seen (Unit {0}) (Unit {0}) (Unit {0}) branch_step nothing (kind_step uses) (stmt_step uses) piece_step block_step nothing expr_step nothing nothing nothing (Stmt-F.Local n at m i w None)
 
 -- an assignment
 pub stmt_assign : (uses : ℕ → Named) (n : ℕ) (at : Span) (t : Expr) (a : Assignment) (x : Expr) → stmt_tree uses (s.Assign n at t a (Some x)) ≡ assign_tree (uses n) n at (seen uses t).name a (Some (seen uses x))
-unfolding seen seen_kind stmt_tree block_trees branch_trees piece
-stmt_assign uses n at t a x = ap (stmt_tree uses) (sym (v.rolls-Assign n at t a (Some x))) ∙ fold-roll-Stmt Trees (Unit {0}) SeenKind Tree Piece Trees (Unit {0}) Seen (Unit {0}) (Unit {0}) (Unit {0}) branch_step nothing (kind_step uses) (stmt_step uses) piece_step block_step nothing expr_step nothing nothing nothing (Stmt-F.Assign n at t a (Some x))
+unfolding seen seen_kind stmt_tree seen_block seen_branch piece
+stmt_assign uses n at t a x = ap (stmt_tree uses) (sym (v.rolls-Assign n at t a (Some x))) ∙ fold-roll-Stmt SeenBlock (Unit {0}) SeenKind Tree Piece SeenBlock (Unit {0}) Seen (Unit {0}) (Unit {0}) (Unit {0}) branch_step nothing (kind_step uses) (stmt_step uses) piece_step block_step nothing expr_step nothing nothing nothing (Stmt-F.Assign n at t a (Some x))
 
 -- `++` and `--`
 pub stmt_assign_alone : (uses : ℕ → Named) (n : ℕ) (at : Span) (t : Expr) (a : Assignment) → stmt_tree uses (s.Assign n at t a None) ≡ assign_tree (uses n) n at (seen uses t).name a None
-unfolding seen seen_kind stmt_tree block_trees branch_trees piece
-stmt_assign_alone uses n at t a = ap (stmt_tree uses) (sym (v.rolls-Assign n at t a None)) ∙ fold-roll-Stmt Trees (Unit {0}) SeenKind Tree Piece Trees (Unit {0}) Seen (Unit {0}) (Unit {0}) (Unit {0}) branch_step nothing (kind_step uses) (stmt_step uses) piece_step block_step nothing expr_step nothing nothing nothing (Stmt-F.Assign n at t a None)
+unfolding seen seen_kind stmt_tree seen_block seen_branch piece
+stmt_assign_alone uses n at t a = ap (stmt_tree uses) (sym (v.rolls-Assign n at t a None)) ∙ fold-roll-Stmt SeenBlock (Unit {0}) SeenKind Tree Piece SeenBlock (Unit {0}) Seen (Unit {0}) (Unit {0}) (Unit {0}) branch_step nothing (kind_step uses) (stmt_step uses) piece_step block_step nothing expr_step nothing nothing nothing (Stmt-F.Assign n at t a None)
 
 -- a loop
 pub stmt_while : (uses : ℕ → Named) (n : ℕ) (at : Span) (c : Expr) (x : Branch) → stmt_tree uses (s.While n at c x) ≡ Shut' (whole n at)
-unfolding seen seen_kind stmt_tree block_trees branch_trees piece
-stmt_while uses n at c x = ap (stmt_tree uses) (sym (v.rolls-While n at c x)) ∙ fold-roll-Stmt Trees (Unit {0}) SeenKind Tree Piece Trees (Unit {0}) Seen (Unit {0}) (Unit {0}) (Unit {0}) branch_step nothing (kind_step uses) (stmt_step uses) piece_step block_step nothing expr_step nothing nothing nothing (Stmt-F.While n at c x)
+unfolding seen seen_kind stmt_tree seen_block seen_branch piece
+stmt_while uses n at c x = ap (stmt_tree uses) (sym (v.rolls-While n at c x)) ∙ fold-roll-Stmt SeenBlock (Unit {0}) SeenKind Tree Piece SeenBlock (Unit {0}) Seen (Unit {0}) (Unit {0}) (Unit {0}) branch_step nothing (kind_step uses) (stmt_step uses) piece_step block_step nothing expr_step nothing nothing nothing (Stmt-F.While n at c x)
 
 -- a loop with its condition at its end
 pub stmt_do_while : (uses : ℕ → Named) (n : ℕ) (at : Span) (x : Block) (c : Expr) → stmt_tree uses (s.DoWhile n at x c) ≡ Shut' (whole n at)
-unfolding seen seen_kind stmt_tree block_trees branch_trees piece
-stmt_do_while uses n at x c = ap (stmt_tree uses) (sym (v.rolls-DoWhile n at x c)) ∙ fold-roll-Stmt Trees (Unit {0}) SeenKind Tree Piece Trees (Unit {0}) Seen (Unit {0}) (Unit {0}) (Unit {0}) branch_step nothing (kind_step uses) (stmt_step uses) piece_step block_step nothing expr_step nothing nothing nothing (Stmt-F.DoWhile n at x c)
+unfolding seen seen_kind stmt_tree seen_block seen_branch piece
+stmt_do_while uses n at x c = ap (stmt_tree uses) (sym (v.rolls-DoWhile n at x c)) ∙ fold-roll-Stmt SeenBlock (Unit {0}) SeenKind Tree Piece SeenBlock (Unit {0}) Seen (Unit {0}) (Unit {0}) (Unit {0}) branch_step nothing (kind_step uses) (stmt_step uses) piece_step block_step nothing expr_step nothing nothing nothing (Stmt-F.DoWhile n at x c)
 
 -- a loop over numbers
 pub stmt_for : (uses : ℕ → Named) (n : ℕ) (at : Span) (i : Ident) (w : Option TypeRef) (l : Expr) (o : Progression) (h : Expr) (x : Branch) → stmt_tree uses (s.For n at i w l o h x) ≡ Shut' (whole n at)
-unfolding seen seen_kind stmt_tree block_trees branch_trees piece
-stmt_for uses n at i w l o h x = ap (stmt_tree uses) (sym (v.rolls-For n at i w l o h x)) ∙ fold-roll-Stmt Trees (Unit {0}) SeenKind Tree Piece Trees (Unit {0}) Seen (Unit {0}) (Unit {0}) (Unit {0}) branch_step nothing (kind_step uses) (stmt_step uses) piece_step block_step nothing expr_step nothing nothing nothing (Stmt-F.For n at i w l o h x)
+unfolding seen seen_kind stmt_tree seen_block seen_branch piece
+stmt_for uses n at i w l o h x = ap (stmt_tree uses) (sym (v.rolls-For n at i w l o h x)) ∙ fold-roll-Stmt SeenBlock (Unit {0}) SeenKind Tree Piece SeenBlock (Unit {0}) Seen (Unit {0}) (Unit {0}) (Unit {0}) branch_step nothing (kind_step uses) (stmt_step uses) piece_step block_step nothing expr_step nothing nothing nothing (Stmt-F.For n at i w l o h x)
 
 -- a branch in braces
+pub seen_braced : (uses : ℕ → Named) (x : Block) → seen_branch uses (b.Braced x) ≡ seen_block uses x
+unfolding seen seen_kind stmt_tree seen_block seen_branch piece
+seen_braced uses x = ap (seen_branch uses) (sym (v.rolls-Braced x)) ∙ fold-roll-Branch SeenBlock (Unit {0}) SeenKind Tree Piece SeenBlock (Unit {0}) Seen (Unit {0}) (Unit {0}) (Unit {0}) branch_step nothing (kind_step uses) (stmt_step uses) piece_step block_step nothing expr_step nothing nothing nothing (Branch-F.Braced x)
+
 pub branch_braced : (uses : ℕ → Named) (x : Block) → branch_trees uses (b.Braced x) ≡ block_trees uses x
-unfolding seen seen_kind stmt_tree block_trees branch_trees piece
-branch_braced uses x = ap (branch_trees uses) (sym (v.rolls-Braced x)) ∙ fold-roll-Branch Trees (Unit {0}) SeenKind Tree Piece Trees (Unit {0}) Seen (Unit {0}) (Unit {0}) (Unit {0}) branch_step nothing (kind_step uses) (stmt_step uses) piece_step block_step nothing expr_step nothing nothing nothing (Branch-F.Braced x)
+branch_braced uses x = ap (λ (s : SeenBlock). s.trees) (seen_braced uses x)
 
 -- a branch that is one statement
+pub seen_single : (uses : ℕ → Named) (x : Stmt) → seen_branch uses (b.Single x) ≡ record { braces = None; trees = First' (stmt_tree uses x) Empty' }
+unfolding seen seen_kind stmt_tree seen_block seen_branch piece
+seen_single uses x = ap (seen_branch uses) (sym (v.rolls-Single x)) ∙ fold-roll-Branch SeenBlock (Unit {0}) SeenKind Tree Piece SeenBlock (Unit {0}) Seen (Unit {0}) (Unit {0}) (Unit {0}) branch_step nothing (kind_step uses) (stmt_step uses) piece_step block_step nothing expr_step nothing nothing nothing (Branch-F.Single x)
+
 pub branch_single : (uses : ℕ → Named) (x : Stmt) → branch_trees uses (b.Single x) ≡ First' (stmt_tree uses x) Empty'
-unfolding seen seen_kind stmt_tree block_trees branch_trees piece
-branch_single uses x = ap (branch_trees uses) (sym (v.rolls-Single x)) ∙ fold-roll-Branch Trees (Unit {0}) SeenKind Tree Piece Trees (Unit {0}) Seen (Unit {0}) (Unit {0}) (Unit {0}) branch_step nothing (kind_step uses) (stmt_step uses) piece_step block_step nothing expr_step nothing nothing nothing (Branch-F.Single x)
+branch_single uses x = ap (λ (s : SeenBlock). s.trees) (seen_single uses x)
 
 -- a text of a string
 pub piece_text : (uses : ℕ → Named) (bs : List ℕ) → piece uses (p.Text bs) ≡ Text' bs
-unfolding seen seen_kind stmt_tree block_trees branch_trees piece
-piece_text uses bs = ap (piece uses) (sym (v.rolls-Text bs)) ∙ fold-roll-StringPart Trees (Unit {0}) SeenKind Tree Piece Trees (Unit {0}) Seen (Unit {0}) (Unit {0}) (Unit {0}) branch_step nothing (kind_step uses) (stmt_step uses) piece_step block_step nothing expr_step nothing nothing nothing (StringPart-F.Text bs)
+unfolding seen seen_kind stmt_tree seen_block seen_branch piece
+piece_text uses bs = ap (piece uses) (sym (v.rolls-Text bs)) ∙ fold-roll-StringPart SeenBlock (Unit {0}) SeenKind Tree Piece SeenBlock (Unit {0}) Seen (Unit {0}) (Unit {0}) (Unit {0}) branch_step nothing (kind_step uses) (stmt_step uses) piece_step block_step nothing expr_step nothing nothing nothing (StringPart-F.Text bs)
 
 -- an inserted part of a string
 pub piece_inserted : (uses : ℕ → Named) (x : Expr) → piece uses (p.Inserted x) ≡ Inserted' (expr_tree uses x)
-unfolding seen seen_kind stmt_tree block_trees branch_trees piece
-piece_inserted uses x = ap (piece uses) (sym (v.rolls-Inserted x)) ∙ fold-roll-StringPart Trees (Unit {0}) SeenKind Tree Piece Trees (Unit {0}) Seen (Unit {0}) (Unit {0}) (Unit {0}) branch_step nothing (kind_step uses) (stmt_step uses) piece_step block_step nothing expr_step nothing nothing nothing (StringPart-F.Inserted x)
+unfolding seen seen_kind stmt_tree seen_block seen_branch piece
+piece_inserted uses x = ap (piece uses) (sym (v.rolls-Inserted x)) ∙ fold-roll-StringPart SeenBlock (Unit {0}) SeenKind Tree Piece SeenBlock (Unit {0}) Seen (Unit {0}) (Unit {0}) (Unit {0}) branch_step nothing (kind_step uses) (stmt_step uses) piece_step block_step nothing expr_step nothing nothing nothing (StringPart-F.Inserted x)
 
--- the statements of a block
+-- a block, with its statements
+pub seen_list : (uses : ℕ → Named) (x : Block) → seen_block uses x ≡ record { braces = Some (out-Block x).span; trees = listed (map (stmt_tree uses) (out-Block x).statements) }
+unfolding seen seen_kind stmt_tree seen_block seen_branch piece
+seen_list uses x = fold_out-Block SeenBlock (Unit {0}) SeenKind Tree Piece SeenBlock (Unit {0}) Seen (Unit {0}) (Unit {0}) (Unit {0}) branch_step nothing (kind_step uses) (stmt_step uses) piece_step block_step nothing expr_step nothing nothing nothing x
+
 pub block_list : (uses : ℕ → Named) (x : Block) → block_trees uses x ≡ listed (map (stmt_tree uses) (out-Block x).statements)
-unfolding seen seen_kind stmt_tree block_trees branch_trees piece
-block_list uses x = fold_out-Block Trees (Unit {0}) SeenKind Tree Piece Trees (Unit {0}) Seen (Unit {0}) (Unit {0}) (Unit {0}) branch_step nothing (kind_step uses) (stmt_step uses) piece_step block_step nothing expr_step nothing nothing nothing x
+block_list uses x = ap (λ (s : SeenBlock). s.trees) (seen_list uses x)
 
 -- ---- whatever may not be written
 
 -- `if`, with or without `else`
-pub kind_if_any : (uses : ℕ → Named) (c : Expr) (x : Branch) (y : Option Branch) → seen_kind uses (e.If c x y) ≡ plain (λ n at. If' (whole n at) (expr_tree uses c) (branch_trees uses x) (otherwise (option_map (branch_trees uses) y)))
+pub kind_if_any : (uses : ℕ → Named) (c : Expr) (x : Branch) (y : Option Branch) → seen_kind uses (e.If c x y) ≡ plain (λ n at. If' (whole n at) (if_braces uses x y) (expr_tree uses c) (branch_trees uses x) (otherwise (option_map (branch_trees uses) y)))
 kind_if_any uses c x (Some y) = kind_if uses c x y
 kind_if_any uses c x None = kind_if_alone uses c x
 
@@ -255,7 +264,7 @@ abbrev Layer : Type 0
 Layer = ExprKind-F Branch Condition ExprKind Stmt StringPart Block Catch Expr Lambda Subject WhenBranch
 
 kind_other_at : (uses : ℕ → Named) (l : Layer) → ((k : ℕ) → v.roll-ExprKind l ≢ e.Int k) → ((t : Bool) → v.roll-ExprKind l ≢ e.Bool t) → (v.roll-ExprKind l ≢ e.Null) → ((x : ℕ) → v.roll-ExprKind l ≢ e.Name x) → ((ps : List StringPart) → v.roll-ExprKind l ≢ e.Template ps) → ((x : Expr) → v.roll-ExprKind l ≢ e.Paren x) → ((f : Ident) (xs : List Expr) (l' : Option Lambda) → v.roll-ExprKind l ≢ e.Call f xs l') → ((o : Sign) (x : Expr) → v.roll-ExprKind l ≢ e.Sign o x) → ((x : Expr) → v.roll-ExprKind l ≢ e.Not x) → ((x : Expr) (y : Expr) → v.roll-ExprKind l ≢ e.Sum x y) → ((o : Arithmetic) (x : Expr) (y : Expr) → v.roll-ExprKind l ≢ e.Arithmetic o x y) → ((o : Comparison) (x : Expr) (y : Expr) → v.roll-ExprKind l ≢ e.Compare o x y) → ((o : Equality) (x : Expr) (y : Expr) → v.roll-ExprKind l ≢ e.Equal o x y) → ((x : Expr) (y : Expr) → v.roll-ExprKind l ≢ e.And x y) → ((x : Expr) (y : Expr) → v.roll-ExprKind l ≢ e.Or x y) → ((c : Expr) (x : Branch) (y : Option Branch) → v.roll-ExprKind l ≢ e.If c x y) → ((l' : Option Ident) (w : Option Expr) → v.roll-ExprKind l ≢ e.Return l' w) → ((x : Expr) → v.roll-ExprKind l ≢ e.Throw x) → seen_kind uses (v.roll-ExprKind l) ≡ shut
-unfolding seen seen_kind stmt_tree block_trees branch_trees piece
+unfolding seen seen_kind stmt_tree seen_block seen_branch piece
 kind_other_at uses (ExprKind-F.Int k) h0 h1 h2 h3 h4 h5 h6 h7 h8 h9 h10 h11 h12 h13 h14 h15 h16 h17 = absurd (h0 k (v.rolls-Int k))
 kind_other_at uses (ExprKind-F.Bool t) h0 h1 h2 h3 h4 h5 h6 h7 h8 h9 h10 h11 h12 h13 h14 h15 h16 h17 = absurd (h1 t (v.rolls-Bool t))
 kind_other_at uses ExprKind-F.Null h0 h1 h2 h3 h4 h5 h6 h7 h8 h9 h10 h11 h12 h13 h14 h15 h16 h17 = absurd (h2 v.rolls-Null)
@@ -274,7 +283,7 @@ kind_other_at uses (ExprKind-F.Or x y) h0 h1 h2 h3 h4 h5 h6 h7 h8 h9 h10 h11 h12
 kind_other_at uses (ExprKind-F.If c x y) h0 h1 h2 h3 h4 h5 h6 h7 h8 h9 h10 h11 h12 h13 h14 h15 h16 h17 = absurd (h15 c x y (v.rolls-If c x y))
 kind_other_at uses (ExprKind-F.Return l w) h0 h1 h2 h3 h4 h5 h6 h7 h8 h9 h10 h11 h12 h13 h14 h15 h16 h17 = absurd (h16 l w (v.rolls-Return l w))
 kind_other_at uses (ExprKind-F.Throw x) h0 h1 h2 h3 h4 h5 h6 h7 h8 h9 h10 h11 h12 h13 h14 h15 h16 h17 = absurd (h17 x (v.rolls-Throw x))
-kind_other_at uses l h0 h1 h2 h3 h4 h5 h6 h7 h8 h9 h10 h11 h12 h13 h14 h15 h16 h17 = fold-roll-ExprKind Trees (Unit {0}) SeenKind Tree Piece Trees (Unit {0}) Seen (Unit {0}) (Unit {0}) (Unit {0}) branch_step nothing (kind_step uses) (stmt_step uses) piece_step block_step nothing expr_step nothing nothing nothing l
+kind_other_at uses l h0 h1 h2 h3 h4 h5 h6 h7 h8 h9 h10 h11 h12 h13 h14 h15 h16 h17 = fold-roll-ExprKind SeenBlock (Unit {0}) SeenKind Tree Piece SeenBlock (Unit {0}) Seen (Unit {0}) (Unit {0}) (Unit {0}) branch_step nothing (kind_step uses) (stmt_step uses) piece_step block_step nothing expr_step nothing nothing nothing l
 
 -- a kind that is none of the open ones
 pub kind_other : (uses : ℕ → Named) (k' : ExprKind) → ((k : ℕ) → k' ≢ e.Int k) → ((t : Bool) → k' ≢ e.Bool t) → (k' ≢ e.Null) → ((x : ℕ) → k' ≢ e.Name x) → ((ps : List StringPart) → k' ≢ e.Template ps) → ((x : Expr) → k' ≢ e.Paren x) → ((f : Ident) (xs : List Expr) (l : Option Lambda) → k' ≢ e.Call f xs l) → ((o : Sign) (x : Expr) → k' ≢ e.Sign o x) → ((x : Expr) → k' ≢ e.Not x) → ((x : Expr) (y : Expr) → k' ≢ e.Sum x y) → ((o : Arithmetic) (x : Expr) (y : Expr) → k' ≢ e.Arithmetic o x y) → ((o : Comparison) (x : Expr) (y : Expr) → k' ≢ e.Compare o x y) → ((o : Equality) (x : Expr) (y : Expr) → k' ≢ e.Equal o x y) → ((x : Expr) (y : Expr) → k' ≢ e.And x y) → ((x : Expr) (y : Expr) → k' ≢ e.Or x y) → ((c : Expr) (x : Branch) (y : Option Branch) → k' ≢ e.If c x y) → ((l : Option Ident) (w : Option Expr) → k' ≢ e.Return l w) → ((x : Expr) → k' ≢ e.Throw x) → seen_kind uses k' ≡ shut
@@ -300,13 +309,13 @@ kind_other uses k' h0 h1 h2 h3 h4 h5 h6 h7 h8 h9 h10 h11 h12 h13 h14 h15 h16 h17
     (λ x. subst (λ j. j ≢ e.Throw x) (sym (v.roll-out-ExprKind k')) (h17 x)))
 
 not_name_at : (uses : ℕ → Named) (l : Layer) → ((x : ℕ) → v.roll-ExprKind l ≢ e.Name x) → (seen_kind uses (v.roll-ExprKind l)).is_name ≡ false
-unfolding seen seen_kind stmt_tree block_trees branch_trees piece
+unfolding seen seen_kind stmt_tree seen_block seen_branch piece
 not_name_at uses (ExprKind-F.Name x) h = absurd (h x (v.rolls-Name x))
-not_name_at uses (ExprKind-F.Call f xs None) h = ap (λ (g : SeenKind). g.is_name) (fold-roll-ExprKind Trees (Unit {0}) SeenKind Tree Piece Trees (Unit {0}) Seen (Unit {0}) (Unit {0}) (Unit {0}) branch_step nothing (kind_step uses) (stmt_step uses) piece_step block_step nothing expr_step nothing nothing nothing (ExprKind-F.Call f xs None))
-not_name_at uses (ExprKind-F.Call f xs (Some l)) h = ap (λ (g : SeenKind). g.is_name) (fold-roll-ExprKind Trees (Unit {0}) SeenKind Tree Piece Trees (Unit {0}) Seen (Unit {0}) (Unit {0}) (Unit {0}) branch_step nothing (kind_step uses) (stmt_step uses) piece_step block_step nothing expr_step nothing nothing nothing (ExprKind-F.Call f xs (Some l)))
-not_name_at uses (ExprKind-F.Return None w) h = ap (λ (g : SeenKind). g.is_name) (fold-roll-ExprKind Trees (Unit {0}) SeenKind Tree Piece Trees (Unit {0}) Seen (Unit {0}) (Unit {0}) (Unit {0}) branch_step nothing (kind_step uses) (stmt_step uses) piece_step block_step nothing expr_step nothing nothing nothing (ExprKind-F.Return None w))
-not_name_at uses (ExprKind-F.Return (Some l) w) h = ap (λ (g : SeenKind). g.is_name) (fold-roll-ExprKind Trees (Unit {0}) SeenKind Tree Piece Trees (Unit {0}) Seen (Unit {0}) (Unit {0}) (Unit {0}) branch_step nothing (kind_step uses) (stmt_step uses) piece_step block_step nothing expr_step nothing nothing nothing (ExprKind-F.Return (Some l) w))
-not_name_at uses l h = ap (λ (g : SeenKind). g.is_name) (fold-roll-ExprKind Trees (Unit {0}) SeenKind Tree Piece Trees (Unit {0}) Seen (Unit {0}) (Unit {0}) (Unit {0}) branch_step nothing (kind_step uses) (stmt_step uses) piece_step block_step nothing expr_step nothing nothing nothing l)
+not_name_at uses (ExprKind-F.Call f xs None) h = ap (λ (g : SeenKind). g.is_name) (fold-roll-ExprKind SeenBlock (Unit {0}) SeenKind Tree Piece SeenBlock (Unit {0}) Seen (Unit {0}) (Unit {0}) (Unit {0}) branch_step nothing (kind_step uses) (stmt_step uses) piece_step block_step nothing expr_step nothing nothing nothing (ExprKind-F.Call f xs None))
+not_name_at uses (ExprKind-F.Call f xs (Some l)) h = ap (λ (g : SeenKind). g.is_name) (fold-roll-ExprKind SeenBlock (Unit {0}) SeenKind Tree Piece SeenBlock (Unit {0}) Seen (Unit {0}) (Unit {0}) (Unit {0}) branch_step nothing (kind_step uses) (stmt_step uses) piece_step block_step nothing expr_step nothing nothing nothing (ExprKind-F.Call f xs (Some l)))
+not_name_at uses (ExprKind-F.Return None w) h = ap (λ (g : SeenKind). g.is_name) (fold-roll-ExprKind SeenBlock (Unit {0}) SeenKind Tree Piece SeenBlock (Unit {0}) Seen (Unit {0}) (Unit {0}) (Unit {0}) branch_step nothing (kind_step uses) (stmt_step uses) piece_step block_step nothing expr_step nothing nothing nothing (ExprKind-F.Return None w))
+not_name_at uses (ExprKind-F.Return (Some l) w) h = ap (λ (g : SeenKind). g.is_name) (fold-roll-ExprKind SeenBlock (Unit {0}) SeenKind Tree Piece SeenBlock (Unit {0}) Seen (Unit {0}) (Unit {0}) (Unit {0}) branch_step nothing (kind_step uses) (stmt_step uses) piece_step block_step nothing expr_step nothing nothing nothing (ExprKind-F.Return (Some l) w))
+not_name_at uses l h = ap (λ (g : SeenKind). g.is_name) (fold-roll-ExprKind SeenBlock (Unit {0}) SeenKind Tree Piece SeenBlock (Unit {0}) Seen (Unit {0}) (Unit {0}) (Unit {0}) branch_step nothing (kind_step uses) (stmt_step uses) piece_step block_step nothing expr_step nothing nothing nothing l)
 
 -- an expression that is no name alone
 pub not_name : (uses : ℕ → Named) (x : Expr) → ((y : ℕ) → x.kind ≢ e.Name y) → (seen uses x).name ≡ None

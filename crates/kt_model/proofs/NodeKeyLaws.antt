@@ -90,7 +90,7 @@ mutual
   occurs-nodes m g c b k (Not' n e) = inside m g c k (Not' n e) (nodes true k e) (times m e) (occurs-nodes m g c true k e)
   occurs-nodes m g c b k (And' n x y) = two m g c k (And' n x y) (nodes true k x) (nodes true k y) _ _ (occurs-nodes m g c true k x) (occurs-nodes m g c true k y)
   occurs-nodes m g c b k (Or' n x y) = two m g c k (Or' n x y) (nodes true k x) (nodes true k y) _ _ (occurs-nodes m g c true k x) (occurs-nodes m g c true k y)
-  occurs-nodes m g c b k (If' n d x y) = three m g c b k (If' n d x y) (nodes true k d) (all_nodes k x) (all_nodes k y) _ _ _ (occurs-nodes m g c true k d) (occurs-all_nodes m g c k x) (occurs-all_nodes m g c k y)
+  occurs-nodes m g c b k (If' n braces d x y) = three m g c b k (If' n braces d x y) (nodes true k d) (all_nodes k x) (all_nodes k y) _ _ _ (occurs-nodes m g c true k d) (occurs-all_nodes m g c k x) (occurs-all_nodes m g c k y)
   occurs-nodes m g c b k (Declare' n x) = ends m g c b k (Declare' n x)
   occurs-nodes m g c b k (Local' n at x e) = around m g c b k (Local' n at x e) (nodes false k e) (times m e) (occurs-nodes m g c false k e)
   occurs-nodes m g c b k (Assign' n at x fixed e) = around m g c b k (Assign' n at x fixed e) (nodes false k e) (times m e) (occurs-nodes m g c false k e)

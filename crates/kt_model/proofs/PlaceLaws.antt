@@ -59,7 +59,7 @@ mutual
   no_entry-nodes b k (Not' n e) = more _ _ in_is_none (both _ _ (no_entry-nodes true k e) (one_out k (Not' n e)))
   no_entry-nodes b k (And' n x y) = more _ _ in_is_none (both _ _ (no_entry-nodes true k x) (both _ _ (no_entry-nodes true k y) (one_out k (And' n x y))))
   no_entry-nodes b k (Or' n x y) = more _ _ in_is_none (both _ _ (no_entry-nodes true k x) (both _ _ (no_entry-nodes true k y) (one_out k (Or' n x y))))
-  no_entry-nodes b k (If' n d x y) = more _ _ in_is_none (both _ _ (no_entry-nodes true k d) (both _ _ (no_entry-all k x) (both _ _ (no_entry-all k y) (leave b k (If' n d x y)))))
+  no_entry-nodes b k (If' n braces d x y) = more _ _ in_is_none (both _ _ (no_entry-nodes true k d) (both _ _ (no_entry-all k x) (both _ _ (no_entry-all k y) (leave b k (If' n braces d x y)))))
   no_entry-nodes b k (Declare' n x) = more _ _ in_is_none (leave b k (Declare' n x))
   no_entry-nodes b k (Local' n at x e) = more _ _ in_is_none (both _ _ (no_entry-nodes false k e) (leave b k (Local' n at x e)))
   no_entry-nodes b k (Assign' n at x fixed e) = more _ _ in_is_none (both _ _ (no_entry-nodes false k e) (leave b k (Assign' n at x fixed e)))

@@ -113,7 +113,7 @@ in_first b k (Paren' n e) rest = inl refl
 in_first b k (Not' n e) rest = inl refl
 in_first b k (And' n x y) rest = inl refl
 in_first b k (Or' n x y) rest = inl refl
-in_first b k (If' n d x y) rest = inl refl
+in_first b k (If' n braces d x y) rest = inl refl
 in_first b k (Declare' n x) rest = inl refl
 in_first b k (Local' n at x e) rest = inl refl
 in_first b k (Assign' n at x fixed e) rest = inl refl
@@ -268,9 +268,9 @@ mutual
       (true_among out ex rest h, false_among out ex rest h)
       (onward-edges c (Branch (on_true_of out ex) (in_of c.copy y ∷ [])) x)
       (onward-edges c (Branch (on_true_of out ex) (on_false_of out ex)) y)
-  onward-edges c ex (If' n d x y) rest f h =
-      let out = out_of c.copy (If' n d x y) ∷ [] in
-      choice c ex (If' n d x y) d x y rest f h (onward-edges c (Branch (entry_of c.copy out x) (entry_of c.copy out y)) d) (onward-all_edges c out x) (onward-all_edges c out y)
+  onward-edges c ex (If' n braces d x y) rest f h =
+      let out = out_of c.copy (If' n braces d x y) ∷ [] in
+      choice c ex (If' n braces d x y) d x y rest f h (onward-edges c (Branch (entry_of c.copy out x) (entry_of c.copy out y)) d) (onward-all_edges c out x) (onward-all_edges c out y)
   onward-edges c ex (Declare' n x) rest f h = bare_onward c (Declare' n x) ex rest f h
   onward-edges c ex (Local' n at x e) rest f h = value c ex (Local' n at x e) e rest f h (onward-edges c (Then (out_of c.copy (Local' n at x e) ∷ [])) e)
   onward-edges c ex (Assign' n at x fixed e) rest f h = value c ex (Assign' n at x fixed e) e rest f h (onward-edges c (Then (out_of c.copy (Assign' n at x fixed e) ∷ [])) e)

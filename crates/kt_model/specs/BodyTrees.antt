@@ -2,7 +2,7 @@
 --
 -- Shapes that are not open yet fold to `Shut'`. To open one: a constructor here, a clause of each definition over these trees, a law for each of
 -- these definitions.
-use Rattle.std.specs.Prelude.{ℕ, Bool, true, false, List, [], ◌∷◌, Option, Some, None}
+use Rattle.std.specs.Prelude.{ℕ, Bool, true, false, List, [], ◌∷◌, Option, Some, None, option_map}
 use Rattle.kt_tree.specs.declared.token.Span.{Span}
 use Rattle.kt_tree.specs.declared.ast.part.Sign.{Sign}
 use Rattle.kt_tree.specs.declared.ast.part.Arithmetic.{Arithmetic}
@@ -42,6 +42,11 @@ pub record Mark : Type 0 where
   pub span : Span
   pub word : Span
 
+-- where the blocks of an `if` stand, with their braces; None where a branch is one statement, or isn't there
+pub record Braces : Type 0 where
+  pub first : Option Span
+  pub second : Option Span
+
 -- A local is known by its declaration, and where a tree names one, `at` is that name's span. An assignment is `fixed` where its local is a `val`. A
 -- compound assignment reads its local first; its operand is not written in `x++` and `x--`. A call `returns` unless its function is declared `Nothing`.
 mutual
@@ -52,7 +57,7 @@ mutual
     Not' : (n : Mark) (e : Tree) → Tree
     And' : (n : Mark) (a b : Tree) → Tree
     Or' : (n : Mark) (a b : Tree) → Tree
-    If' : (n : Mark) (c : Tree) (a b : Trees) → Tree
+    If' : (n : Mark) (braces : Braces) (c : Tree) (a b : Trees) → Tree
     Declare' : (n : Mark) (x : ℕ) → Tree
     Local' : (n : Mark) (at : Span) (x : ℕ) (e : Tree) → Tree
     Assign' : (n : Mark) (at : Span) (x : ℕ) (fixed : Bool) (e : Tree) → Tree
@@ -74,7 +79,7 @@ number (Paren' n e) = n.number
 number (Not' n e) = n.number
 number (And' n a b) = n.number
 number (Or' n a b) = n.number
-number (If' n c a b) = n.number
+number (If' n braces c a b) = n.number
 number (Declare' n x) = n.number
 number (Local' n at x e) = n.number
 number (Assign' n at x fixed e) = n.number
@@ -92,9 +97,26 @@ abbrev pub optional : Option Tree → Trees
 optional (Some t) = First' t Empty'
 optional None = Empty'
 
+-- statements between braces, or one statement alone
+pub record SeenBlock : Type 0 where
+  pub braces : Option Span
+  pub trees : Trees
+
 abbrev pub otherwise : Option Trees → Trees
 otherwise (Some ts) = ts
 otherwise None = Empty'
+
+-- of a branch that need not be there
+abbrev pub trees_there : Option SeenBlock → Trees
+trees_there (Some b) = b.trees
+trees_there None = Empty'
+
+abbrev pub braces_there : Option SeenBlock → Option Span
+braces_there (Some b) = b.braces
+braces_there None = None
+
+abbrev pub braces_of : SeenBlock → Option SeenBlock → Braces
+braces_of a b = record { first = a.braces; second = braces_there b }
 
 -- ---- from the trees of a file, given what the name in each tree stands for
 
@@ -158,7 +180,7 @@ call_tree (named.Function f returns) arguments m = Call' m f returns arguments
 call_tree (named.BuiltIn name returns) arguments m = Operation' m (BuiltIn' name returns) arguments
 call_tree _ arguments m = Shut' m
 
-abbrev pub kind_step : (ℕ → Named) → ExprKind-F Trees (Unit {0}) SeenKind Tree Piece Trees (Unit {0}) Seen (Unit {0}) (Unit {0}) (Unit {0}) → SeenKind
+abbrev pub kind_step : (ℕ → Named) → ExprKind-F SeenBlock (Unit {0}) SeenKind Tree Piece SeenBlock (Unit {0}) Seen (Unit {0}) (Unit {0}) (Unit {0}) → SeenKind
 kind_step uses (ExprKind-F.Int k) = operation (Int' k) Empty'
 kind_step uses (ExprKind-F.Bool b) = operation (Bool' b) Empty'
 kind_step uses ExprKind-F.Null = operation Null' Empty'
@@ -174,7 +196,7 @@ kind_step uses (ExprKind-F.Compare o a b) = operation (Compare' o) (First' a.tre
 kind_step uses (ExprKind-F.Equal o a b) = operation (Equal' o) (First' a.tree (First' b.tree Empty'))
 kind_step uses (ExprKind-F.And a b) = plain (λ n at. And' (whole n at) a.tree b.tree)
 kind_step uses (ExprKind-F.Or a b) = plain (λ n at. Or' (whole n at) a.tree b.tree)
-kind_step uses (ExprKind-F.If c a b) = plain (λ n at. If' (whole n at) c.tree a (otherwise b))
+kind_step uses (ExprKind-F.If c a b) = plain (λ n at. If' (whole n at) (braces_of a b) c.tree a.trees (trees_there b))
 kind_step uses (ExprKind-F.Return None value) = plain (λ n at. Return' (whole n at) (seen_optional value))
 kind_step uses (ExprKind-F.Throw e) = plain (λ n at. Throw' (whole n at) e.tree)
 kind_step uses _ = shut
@@ -200,7 +222,7 @@ abbrev pub assign_tree : Named → ℕ → Span → Option Span → Assignment �
 assign_tree (named.Variable x fixed) n at (Some word) a e = assigned_tree (named_there n at word) x fixed (compound_of a) e
 assign_tree _ n at word a e = Shut' (whole n at)
 
-abbrev pub stmt_step : (ℕ → Named) → Stmt-F Trees (Unit {0}) SeenKind Tree Piece Trees (Unit {0}) Seen (Unit {0}) (Unit {0}) (Unit {0}) → Tree
+abbrev pub stmt_step : (ℕ → Named) → Stmt-F SeenBlock (Unit {0}) SeenKind Tree Piece SeenBlock (Unit {0}) Seen (Unit {0}) (Unit {0}) (Unit {0}) → Tree
 stmt_step uses (Stmt-F.Expr e) = e.tree
 stmt_step uses (Stmt-F.Local n span is_var ident written e) = local_tree (uses n) (named_there n span ident.span) e
 stmt_step uses (Stmt-F.Assign n span target a e) = assign_tree (uses n) n span target.name a e
@@ -208,22 +230,22 @@ stmt_step uses (Stmt-F.While n span c b) = Shut' (whole n span)
 stmt_step uses (Stmt-F.DoWhile n span b c) = Shut' (whole n span)
 stmt_step uses (Stmt-F.For n span x written low p high b) = Shut' (whole n span)
 
-abbrev pub branch_step : Branch-F Trees (Unit {0}) SeenKind Tree Piece Trees (Unit {0}) Seen (Unit {0}) (Unit {0}) (Unit {0}) → Trees
+abbrev pub branch_step : Branch-F SeenBlock (Unit {0}) SeenKind Tree Piece SeenBlock (Unit {0}) Seen (Unit {0}) (Unit {0}) (Unit {0}) → SeenBlock
 branch_step (Branch-F.Braced b) = b
-branch_step (Branch-F.Single t) = First' t Empty'
+branch_step (Branch-F.Single t) = record { braces = None; trees = First' t Empty' }
 
-abbrev pub piece_step : StringPart-F Trees (Unit {0}) SeenKind Tree Piece Trees (Unit {0}) Seen (Unit {0}) (Unit {0}) (Unit {0}) → Piece
+abbrev pub piece_step : StringPart-F SeenBlock (Unit {0}) SeenKind Tree Piece SeenBlock (Unit {0}) Seen (Unit {0}) (Unit {0}) (Unit {0}) → Piece
 piece_step (StringPart-F.Text bytes) = Text' bytes
 piece_step (StringPart-F.Inserted e) = Inserted' e.tree
 
-abbrev pub block_step : Block-F Trees (Unit {0}) SeenKind Tree Piece Trees (Unit {0}) Seen (Unit {0}) (Unit {0}) (Unit {0}) → Trees
-block_step b = listed b.statements
+abbrev pub block_step : Block-F SeenBlock (Unit {0}) SeenKind Tree Piece SeenBlock (Unit {0}) Seen (Unit {0}) (Unit {0}) (Unit {0}) → SeenBlock
+block_step b = record { braces = Some b.span; trees = listed b.statements }
 
 abbrev pub name_span : Bool → Span → Option Span
 name_span true at = Some at
 name_span false at = None
 
-abbrev pub expr_step : Expr-F Trees (Unit {0}) SeenKind Tree Piece Trees (Unit {0}) Seen (Unit {0}) (Unit {0}) (Unit {0}) → Seen
+abbrev pub expr_step : Expr-F SeenBlock (Unit {0}) SeenKind Tree Piece SeenBlock (Unit {0}) Seen (Unit {0}) (Unit {0}) (Unit {0}) → Seen
 expr_step e = record { tree = e.kind.tree_at e.number e.span; name = name_span e.kind.is_name e.span }
 
 -- what has no tree yet
@@ -232,22 +254,32 @@ nothing x = tt
 
 -- an expression, given what the name in each tree stands for
 unfoldable pub seen : (ℕ → Named) → Expr → Seen
-seen uses = fold-Expr Trees (Unit {0}) SeenKind Tree Piece Trees (Unit {0}) Seen (Unit {0}) (Unit {0}) (Unit {0}) branch_step nothing (kind_step uses) (stmt_step uses) piece_step block_step nothing expr_step nothing nothing nothing
+seen uses = fold-Expr SeenBlock (Unit {0}) SeenKind Tree Piece SeenBlock (Unit {0}) Seen (Unit {0}) (Unit {0}) (Unit {0}) branch_step nothing (kind_step uses) (stmt_step uses) piece_step block_step nothing expr_step nothing nothing nothing
 
 unfoldable pub seen_kind : (ℕ → Named) → ExprKind → SeenKind
-seen_kind uses = fold-ExprKind Trees (Unit {0}) SeenKind Tree Piece Trees (Unit {0}) Seen (Unit {0}) (Unit {0}) (Unit {0}) branch_step nothing (kind_step uses) (stmt_step uses) piece_step block_step nothing expr_step nothing nothing nothing
+seen_kind uses = fold-ExprKind SeenBlock (Unit {0}) SeenKind Tree Piece SeenBlock (Unit {0}) Seen (Unit {0}) (Unit {0}) (Unit {0}) branch_step nothing (kind_step uses) (stmt_step uses) piece_step block_step nothing expr_step nothing nothing nothing
 
 unfoldable pub stmt_tree : (ℕ → Named) → Stmt → Tree
-stmt_tree uses = fold-Stmt Trees (Unit {0}) SeenKind Tree Piece Trees (Unit {0}) Seen (Unit {0}) (Unit {0}) (Unit {0}) branch_step nothing (kind_step uses) (stmt_step uses) piece_step block_step nothing expr_step nothing nothing nothing
+stmt_tree uses = fold-Stmt SeenBlock (Unit {0}) SeenKind Tree Piece SeenBlock (Unit {0}) Seen (Unit {0}) (Unit {0}) (Unit {0}) branch_step nothing (kind_step uses) (stmt_step uses) piece_step block_step nothing expr_step nothing nothing nothing
 
-unfoldable pub block_trees : (ℕ → Named) → Block → Trees
-block_trees uses = fold-Block Trees (Unit {0}) SeenKind Tree Piece Trees (Unit {0}) Seen (Unit {0}) (Unit {0}) (Unit {0}) branch_step nothing (kind_step uses) (stmt_step uses) piece_step block_step nothing expr_step nothing nothing nothing
+unfoldable pub seen_block : (ℕ → Named) → Block → SeenBlock
+seen_block uses = fold-Block SeenBlock (Unit {0}) SeenKind Tree Piece SeenBlock (Unit {0}) Seen (Unit {0}) (Unit {0}) (Unit {0}) branch_step nothing (kind_step uses) (stmt_step uses) piece_step block_step nothing expr_step nothing nothing nothing
 
-unfoldable pub branch_trees : (ℕ → Named) → Branch → Trees
-branch_trees uses = fold-Branch Trees (Unit {0}) SeenKind Tree Piece Trees (Unit {0}) Seen (Unit {0}) (Unit {0}) (Unit {0}) branch_step nothing (kind_step uses) (stmt_step uses) piece_step block_step nothing expr_step nothing nothing nothing
+unfoldable pub seen_branch : (ℕ → Named) → Branch → SeenBlock
+seen_branch uses = fold-Branch SeenBlock (Unit {0}) SeenKind Tree Piece SeenBlock (Unit {0}) Seen (Unit {0}) (Unit {0}) (Unit {0}) branch_step nothing (kind_step uses) (stmt_step uses) piece_step block_step nothing expr_step nothing nothing nothing
 
 unfoldable pub piece : (ℕ → Named) → StringPart → Piece
-piece uses = fold-StringPart Trees (Unit {0}) SeenKind Tree Piece Trees (Unit {0}) Seen (Unit {0}) (Unit {0}) (Unit {0}) branch_step nothing (kind_step uses) (stmt_step uses) piece_step block_step nothing expr_step nothing nothing nothing
+piece uses = fold-StringPart SeenBlock (Unit {0}) SeenKind Tree Piece SeenBlock (Unit {0}) Seen (Unit {0}) (Unit {0}) (Unit {0}) branch_step nothing (kind_step uses) (stmt_step uses) piece_step block_step nothing expr_step nothing nothing nothing
 
 abbrev pub expr_tree : (ℕ → Named) → Expr → Tree
 expr_tree uses e = (seen uses e).tree
+
+abbrev pub block_trees : (ℕ → Named) → Block → Trees
+block_trees uses b = (seen_block uses b).trees
+
+abbrev pub branch_trees : (ℕ → Named) → Branch → Trees
+branch_trees uses b = (seen_branch uses b).trees
+
+-- where the branches of an `if` stand
+abbrev pub if_braces : (ℕ → Named) → Branch → Option Branch → Braces
+if_braces uses a b = braces_of (seen_branch uses a) (option_map (seen_branch uses) b)

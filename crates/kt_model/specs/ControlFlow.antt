@@ -115,8 +115,8 @@ unfoldable mutual
       let t = And' n a b in in_of copy t ∷ (nodes true copy a ++ (nodes true copy b ++ out_of copy t ∷ []))
   nodes branching copy (Or' n a b) =
       let t = Or' n a b in in_of copy t ∷ (nodes true copy a ++ (nodes true copy b ++ out_of copy t ∷ []))
-  nodes branching copy (If' n c a b) =
-      let t = If' n c a b in
+  nodes branching copy (If' n braces c a b) =
+      let t = If' n braces c a b in
       in_of copy t ∷ (nodes true copy c ++ (all_nodes copy a ++ (all_nodes copy b ++ leave_nodes branching copy t)))
   nodes branching copy (Declare' n x) =
       let t = Declare' n x in in_of copy t ∷ leave_nodes branching copy t
@@ -221,8 +221,8 @@ unfoldable mutual
       enter context t (in_of context.copy a ∷ [])
       ++ (edges context (Branch (on_true_of (out_of context.copy t) exits) (in_of context.copy b ∷ [])) a
       ++ (edges context (Branch (on_true_of (out_of context.copy t) exits) (on_false_of (out_of context.copy t) exits)) b ++ test_edges context (out_of context.copy t) exits))
-  edges context exits (If' n c a b) =
-      let t = If' n c a b in
+  edges context exits (If' n braces c a b) =
+      let t = If' n braces c a b in
       let out = out_of context.copy t ∷ [] in
       enter context t (in_of context.copy c ∷ [])
       ++ (edges context (Branch (entry_of context.copy out a) (entry_of context.copy out b)) c

@@ -47,7 +47,7 @@ abbrev mutual
   times m (Not' n e) = only_if m n.number 1 + times m e
   times m (And' n a b) = only_if m n.number 1 + (times m a + times m b)
   times m (Or' n a b) = only_if m n.number 1 + (times m a + times m b)
-  times m (If' n c a b) = only_if m n.number 1 + (times m c + (all_times m a + all_times m b))
+  times m (If' n braces c a b) = only_if m n.number 1 + (times m c + (all_times m a + all_times m b))
   times m (Declare' n x) = only_if m n.number 1
   times m (Local' n at x e) = only_if m n.number 1 + times m e
   times m (Assign' n at x fixed e) = only_if m n.number 1 + times m e

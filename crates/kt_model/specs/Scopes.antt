@@ -18,17 +18,14 @@ use Rattle.kt_model.specs.declared.uses.UseRow.{UseRow}
 use Rattle.kt_model.specs.declared.name_events.NameEvent.{NameEvent}
 use Rattle.kt_model.specs.declared.name_events.NameEvent.TheVariants.{Opens, Closes, Parameter, Local, Reads, Calls, Assigns}
 use Rattle.kt_model.specs.NameUses.{Resolved}
-use Rattle.kt_model.specs.BuiltIns.{BuiltIn, built_in_functions}
+use Rattle.kt_model.specs.declared.built_ins.BuiltIn.{BuiltIn}
+use Rattle.kt_model.specs.BuiltIns.{built_in_functions}
 use Rattle.kt_model.specs.TopNames.{Tops, top_names, class_named}
 use Rattle.kt_model.specs.DeclarationRules.{first_place}
 use Rattle.kt_model.specs.Outlines.{written_type, function_result}
 use Rattle.kt_model.specs.NameEvents.{Events, parameter_events, function_events, file_events}
 
 -- ---- the declarations of a file
-
-abbrev pub built_in_declaration : BuiltIn → Declaration
-built_in_declaration b =
-    record { kind = kind.BuiltIn; name = b.name; span = first_place; is_var = false; is_nothing = false; written = Some b.result }
 
 abbrev pub is_nothing_head : Head → Bool
 is_nothing_head head.Nothing = true
@@ -38,6 +35,10 @@ is_nothing_head _ = false
 abbrev pub is_nothing : Option KtType → Bool
 is_nothing (Some type) = is_nothing_head type.head && not type.nullable
 is_nothing None = false
+
+abbrev pub built_in_declaration : BuiltIn → Declaration
+built_in_declaration b =
+    record { kind = kind.BuiltIn; name = b.name; span = first_place; is_var = false; is_nothing = is_nothing (Some b.result); written = Some b.result }
 
 abbrev pub function_declaration : Tops → ℕ → FunctionDecl → Declaration
 function_declaration tops place f =

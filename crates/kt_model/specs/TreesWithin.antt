@@ -13,7 +13,7 @@ unfoldable mutual
   trees_in (Not' n e) = Not' n e ∷ trees_in e
   trees_in (And' n a b) = And' n a b ∷ (trees_in a ++ trees_in b)
   trees_in (Or' n a b) = Or' n a b ∷ (trees_in a ++ trees_in b)
-  trees_in (If' n c a b) = If' n c a b ∷ (trees_in c ++ (all_trees_in a ++ all_trees_in b))
+  trees_in (If' n braces c a b) = If' n braces c a b ∷ (trees_in c ++ (all_trees_in a ++ all_trees_in b))
   trees_in (Declare' n x) = Declare' n x ∷ []
   trees_in (Local' n at x e) = Local' n at x e ∷ trees_in e
   trees_in (Assign' n at x fixed e) = Assign' n at x fixed e ∷ trees_in e
@@ -35,7 +35,7 @@ mark_of (Paren' n e) = n
 mark_of (Not' n e) = n
 mark_of (And' n a b) = n
 mark_of (Or' n a b) = n
-mark_of (If' n c a b) = n
+mark_of (If' n braces c a b) = n
 mark_of (Declare' n x) = n
 mark_of (Local' n at x e) = n
 mark_of (Assign' n at x fixed e) = n

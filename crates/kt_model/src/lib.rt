@@ -4,6 +4,7 @@
 #![tactic(auto)]
 
 pub mod body_site;
+pub mod built_ins;
 pub mod class_table;
 pub mod dead;
 pub mod finding;

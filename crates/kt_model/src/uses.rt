@@ -1,8 +1,9 @@
 //! What the names of a file stand for.
 ghost use Rattle.std.specs.Prelude.{◌≡◌, ◌==◌, map, find, slice_get, option_and_then};
 ghost use Rattle.std.specs.List.Sorted.{IsStrictlyIncreasing};
-ghost use Rattle.kt_model.specs.NameUses.{named_at, named_if, parameters_at};
+ghost use Rattle.kt_model.specs.NameUses.{named_at, named_if, parameters_at, declaration_type, function_place};
 
+use crate::built_ins::BUILT_IN_FUNCTIONS;
 use crate::class_table::{ClassTable, Member, Numbers};
 use crate::kinds::KtType;
 use kt_tree::Span;
@@ -156,6 +157,14 @@ impl Uses {
             Some(declared) => declared.written,
             None => None,
         }
+    }
+
+    /// The written type of a function's result, by its place among the file's functions; that of a block without one is `Unit`. `None` where none is
+    /// written, or there is no such function.
+    pub fn function_result(&self, function: u32) -> Option<KtType>
+        ensures { result ≡ declaration_type self.now (function_place function) }
+    {
+        self.written(BUILT_IN_FUNCTIONS + function as usize)
     }
 
     /// The declarations of a function's parameters, by its place among the file's functions; none where there is no such function.

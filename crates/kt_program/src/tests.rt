@@ -27,6 +27,10 @@ const CALLS_ITSELF: &[u8] = b"fun main() {\n    print(1)\n    main()\n}\n";
 
 const CALLED: &[u8] = b"1111111111111111";
 
+// A source that throws, and what stands behind the call needs no value.
+const THROWS: &[u8] =
+    b"fun main() {\n    val x: Int\n    print(1)\n    error(2)\n    print(x)\n}\n";
+
 const USAGE: &[u8] = b"usage: ktflow check FILE or ktflow run [--steps N] FILE\n";
 
 // One call over objects in memory that move one byte at a time; each fails at the call with this number, from 0.
@@ -116,6 +120,13 @@ fn runs_without_faults(rt: HostRuntime) -> Result<(), Fail> {
     answers(&rt, rt.alloc(), PLAIN, 0, PRINTED, b"")?;
     let words = &["run", "--steps", "1000000000", "a.kt"];
     answers(&rt, rt.alloc(), Case { words, ..PLAIN }, 0, PRINTED, b"")
+}
+
+#[test]
+fn an_exception_ends_a_run(rt: HostRuntime) -> Result<(), Fail> {
+    let source = THROWS;
+    let said = b"uncaught IllegalStateException: 2\n";
+    answers(&rt, rt.alloc(), Case { source, ..PLAIN }, 7, b"1", said)
 }
 
 #[test]

@@ -135,7 +135,7 @@ module _ (p : Program) (go also : Tree → Run Value) (part : (t : Tree) → Kee
   tree_keeps (Not' n e) = not_keeps e
   tree_keeps (And' n a b) = and_keeps a b
   tree_keeps (Or' n a b) = or_keeps a b
-  tree_keeps (If' n c a b) = if_keeps c a b
+  tree_keeps (If' n braces c a b) = if_keeps c a b
   tree_keeps (Declare' n x) = same (store x None)
   tree_keeps (Local' n at x e) = bind_keeps _ _ _ _ (part e) (λ v. checked_keeps (fits (p.written x) v) (store x (Some v)) (store x (Some v)) (same (store x (Some v))))
   tree_keeps (Assign' n at x fixed e) = bind_keeps _ _ _ _ (part e) (λ v. checked_keeps (fits (p.written x) v) (write fixed x v) (write fixed x v) (same (write fixed x v)))

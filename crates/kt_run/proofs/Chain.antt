@@ -166,11 +166,7 @@ err_is : {B : Type 0} (q : Result B Halt) (k : Halt) → IsErrAnd q (λ y. y ≡
 err_is (Ok b) k i = absurd i
 err_is (Err h) k i = ap (λ y. Err y) i
 
--- an error behind a `?`
-pub error_by : {A : Type 0} (p : Run A) (s t : Scene) (k : Halt) (q : Result A Halt) → IsErrAnd q (λ y. y ≡ k) → Runs p s (Err k) t → Runs p s q t
-error_by {A} p s t k q i h = subst (λ (x : Result A Halt). Runs p s x t) (sym (err_is q k i)) h
-
--- the same of a part behind a `?`
+-- the error of a part behind a `?`
 pub exit_by : {A B : Type 0} (p : Run A) (f : A → Run B) (s t : Scene) (k : Halt) (q : Result B Halt) → IsErrAnd q (λ y. y ≡ k) → Runs p s (Err k) t → Runs (p >>= f) s q t
 exit_by {A} {B} p f s t k q i h = subst (λ (x : Result B Halt). Runs (p >>= f) s x t) (sym (err_is q k i)) (exit_runs p f s k t h)
 
@@ -178,7 +174,7 @@ exit_by {A} {B} p f s t k q i h = subst (λ (x : Result B Halt). Runs (p >>= f) 
 
 pub quiet_runs : {A : Type 0} (p : Run A) (s : Kept) (r : Result A Halt) (t : Kept) (out : OutputState) → Quiet p s r t → Runs p (scene s out) r (scene t out)
 quiet_runs p s (Ok a) t out k = record { events = []; puts = none_put out; is = k }
-quiet_runs p s (Err (halt.Way w)) t out k = absurd k
+quiet_runs p s (Err (halt.Way w)) t out k = record { events = []; puts = none_put out; is = k }
 quiet_runs p s (Err (halt.Over l)) t out k = record { events = []; puts = none_put out; is = k }
 quiet_runs p s (Err halt.OutputFault) t out k = absurd k
 quiet_runs p s (Err halt.NoMemory) t out k = record { front = λ input. short_of out _ }
@@ -186,14 +182,14 @@ quiet_runs p s (Err halt.NoMemory) t out k = record { front = λ input. short_of
 pub quiet_then : {A B : Type 0} (p : Run A) (f : A → Run B) (a : A) (s t : Kept) (r : Result B Halt) (u : Kept) → Quiet p s (Ok a) t → Quiet (f a) t r u → Quiet (p >>= f) s r u
 unfolding ◌>>=◌
 quiet_then {A} {B} p f a s t (Ok b) u h k = λ input. bound_is (p (seen s input)) f a (seen t input) [] (h input) ∙ ap (λ (o : Outcome B). record { ending = o.ending; events = [] ++ o.events }) (k input)
-quiet_then p f a s t (Err (halt.Way w)) u h k = k
+quiet_then {A} {B} p f a s t (Err (halt.Way w)) u h k = λ input. bound_is (p (seen s input)) f a (seen t input) [] (h input) ∙ ap (λ (o : Outcome B). record { ending = o.ending; events = [] ++ o.events }) (k input)
 quiet_then {A} {B} p f a s t (Err (halt.Over l)) u h k = λ input. bound_is (p (seen s input)) f a (seen t input) [] (h input) ∙ ap (λ (o : Outcome B). record { ending = o.ending; events = [] ++ o.events }) (k input)
 quiet_then p f a s t (Err halt.OutputFault) u h k = k
 quiet_then p f a s t (Err halt.NoMemory) u h k = k
 
 pub quiet_exit : {A B : Type 0} (p : Run A) (f : A → Run B) (s : Kept) (h : Halt) (t : Kept) → Quiet p s (Err h) t → Quiet (p >>= f) s (Err h) t
 unfolding ◌>>=◌
-quiet_exit p f s (halt.Way w) t k = k
+quiet_exit {A} p f s (halt.Way w) t k = λ input. ap (λ (o : Outcome A). bound o f) (k input)
 quiet_exit {A} p f s (halt.Over l) t k = λ input. ap (λ (o : Outcome A). bound o f) (k input)
 quiet_exit p f s halt.OutputFault t k = k
 quiet_exit p f s halt.NoMemory t k = k
@@ -201,7 +197,20 @@ quiet_exit p f s halt.NoMemory t k = k
 pub quiet_exit_by : {A B : Type 0} (p : Run A) (f : A → Run B) (s t : Kept) (k : Halt) (q : Result B Halt) → IsErrAnd q (λ y. y ≡ k) → Quiet p s (Err k) t → Quiet (p >>= f) s q t
 quiet_exit_by {A} {B} p f s t k q i h = subst (λ (x : Result B Halt). Quiet (p >>= f) s x t) (sym (err_is q k i)) (quiet_exit p f s k t h)
 
+-- a value alone
+pub pure_quiet : {A : Type 0} (a : A) (s : Kept) → Quiet (pure a) s (Ok a) s
+unfolding pure
+pure_quiet a s = λ input. refl
+
+-- a body that is left
+pub leave_quiet : {A : Type 0} (w : Way) (s : Kept) → Quiet (leave {A = A} w) s (Err (halt.Way w)) s
+unfolding leave
+leave_quiet w s = λ input. refl
+
 -- ---- the same evaluation in other words
+
+pub same_quiet : {A : Type 0} (p q : Run A) (s : Kept) (r : Result A Halt) (t : Kept) → p ≡ q → Quiet q s r t → Quiet p s r t
+same_quiet p q s r t e h = subst (λ x. Quiet x s r t) (sym e) h
 
 pub same_right : {A : Type 0} (p q : Run A) (s : Kept) → p ≡ q → Right p s → Right q s
 same_right p q s e h = subst (λ r. Right r s) e h

@@ -8,13 +8,10 @@ use Rattle.kt_tree.specs.declared.ast.part.Assignment.{Assignment}
 use Rattle.kt_tree.specs.declared.ast.part.Assignment.TheVariants as assignment
 use Rattle.kt_tree.specs.declared.ast.body.Expr.{Expr}
 use Rattle.kt_tree.specs.declared.ast.body.Stmt.{Stmt}
-use Rattle.kt_tree.specs.declared.ast.body.StringPart.{StringPart}
-use Rattle.kt_tree.specs.declared.ast.body.StringPart.TheVariants as part
-use Rattle.kt_model.proofs.BodyFolds.{piece_inserted, piece_text}
 use Rattle.kt_model.specs.declared.kinds.KtType.{KtType}
 use Rattle.kt_model.specs.declared.uses.Named.{Named}
 use Rattle.kt_model.specs.declared.uses.Named.TheVariants as named
-use Rattle.kt_model.specs.BodyTrees.{Operation, Sum', Arithmetic', Mark, Tree, Trees, Empty', First', expr_tree, stmt_tree, listed, piece, inserted_of, name_tree, call_tree, local_tree as local_shape, assign_tree as assign_shape, seen as seen_in, seen_trees, seen_optional}
+use Rattle.kt_model.specs.BodyTrees.{Operation, Sum', Arithmetic', Mark, Tree, Trees, Empty', First', expr_tree, stmt_tree, listed, name_tree, call_tree, local_tree as local_shape, assign_tree as assign_shape, seen as seen_in, seen_trees, seen_optional}
 use Rattle.kt_outside.specs.Outside.{OutputState}
 use Rattle.kt_outside.specs.Texts.{PutsFront}
 use Rattle.kt_mean.specs.Events.{text_of}
@@ -47,17 +44,6 @@ module _ (p : Program) (go : Tree → Run Value) (uses : ℕ → Named) where
   -- one statement, then those behind it
   pub statements_next : (v : Value) (xs : List Stmt) (i : ℕ) (x : Stmt) → i < length xs → x ≡ get_or xs i x → block_from p go v (listed (map (stmt_tree uses) (drop i xs))) ≡ (go (stmt_tree uses x) >>= (λ w. block_from p go w (listed (map (stmt_tree uses) (drop (i + 1) xs)))))
   statements_next v xs i x h e = ap (λ l. block_from p go v (listed (map (stmt_tree uses) l))) (drop_item xs i x h e)
-
-  -- one part of a string, then those behind it
-  pub inserted_next : (f : List Value → Run Value) (xs : List StringPart) (i : ℕ) (x : StringPart) (e : Expr) → i < length xs → x ≡ get_or xs i x → x ≡ part.Inserted e → with_values p go (inserted_of (map (piece uses) (drop i xs))) f ≡ (go (expr_tree uses e) >>= (λ v. with_values p go (inserted_of (map (piece uses) (drop (i + 1) xs))) (λ vs. f (v ∷ vs))))
-  inserted_next f xs i x e h is kind =
-      ap (λ l. with_values p go (inserted_of (map (piece uses) l)) f) (drop_item xs i x h is)
-      ∙ ap (λ y. with_values p go (inserted_of (y ∷ map (piece uses) (drop (i + 1) xs))) f) (ap (piece uses) kind ∙ piece_inserted uses e)
-
-  pub text_next : (f : List Value → Run Value) (xs : List StringPart) (i : ℕ) (x : StringPart) (bytes : List ℕ) → i < length xs → x ≡ get_or xs i x → x ≡ part.Text bytes → with_values p go (inserted_of (map (piece uses) (drop i xs))) f ≡ with_values p go (inserted_of (map (piece uses) (drop (i + 1) xs))) f
-  text_next f xs i x bytes h is kind =
-      ap (λ l. with_values p go (inserted_of (map (piece uses) l)) f) (drop_item xs i x h is)
-      ∙ ap (λ y. with_values p go (inserted_of (y ∷ map (piece uses) (drop (i + 1) xs))) f) (ap (piece uses) kind ∙ piece_text uses bytes)
 
 -- ---- arguments
 
@@ -117,7 +103,7 @@ module _ (p : Program) (go : Tree → Run Value) where
 
   -- as a call begins, with these locals
   abbrev pub begun_with : Kept → List ℕ → Locals → State
-  begun_with s input l = record { here = record { locals = l }; calls = s.calls + 1; steps = s.steps; input = input }
+  begun_with s input l = record { here = record { locals = l }; calls = s.calls + 1; steps = s.steps; cells = s.cells; text = s.text; input = input }
 
   pub body_right : (f : Function) (vs : List Value) (s b : Kept) → ((input : List ℕ) → seen b input ≡ begun f vs (seen s input)) → s.calls < most_calls → Right (limited (invoke p go f vs)) s → Right (block p go f.body) b
   unfolding invoke turned

@@ -1,13 +1,9 @@
 -- The locals of a call in a list of slots.
-use Rattle.std.proofs.Common.{◌≡◌, ℕ, zero, suc, ◌+◌, ◌≤◌, ◌<◌, add-one, Bool, true, false, nat_eq, if◌then◌else◌, List, [], ◌∷◌, ◌++◌, length, drop, get_or, Option, Some, None, slice_get, slice_set, refl, sym, ap, ◌∙◌, arith, true≢false}
+use Rattle.std.proofs.Common.{◌≡◌, ℕ, zero, suc, ◌<◌, Bool, true, false, nat_eq, if◌then◌else◌, List, [], ◌∷◌, ◌++◌, length, Option, Some, None, slice_get, slice_set, refl, sym, ap, ◌∙◌, arith, true≢false}
 use Rattle.std.proofs.lemmas.Bool.{eqb-true, eq-eqb}
 use Rattle.std.proofs.Math.Path.{fun_ext}
 use Rattle.kt_mean.specs.declared.states.Value.{Value}
-use Rattle.kt_mean.specs.Frames.{with_local, no_locals}
-use Rattle.std.proofs.lemmas.List.{drop_all}
-use Rattle.std.proofs.Math.Seq.{drop-cons}
-use Rattle.kt_mean.specs.declared.states.Value.TheVariants as value
-use Rattle.kt_mean.specs.Evaluation.{new_locals}
+use Rattle.kt_mean.specs.Frames.{with_local}
 use Rattle.kt_run.specs.Slots.{held}
 
 abbrev pub flat : Option (Option Value) → Option Value
@@ -50,10 +46,6 @@ set_at vs x o h y = by (nat_eq y x) refl
 pub held_set : (vs : List (Option Value)) (x : ℕ) (o : Option Value) → x < length vs → held (slice_set vs x o) ≡ with_local (held vs) x o
 held_set vs x o h = fun_ext (set_at vs x o h)
 
--- one parameter more
-pub locals_more : (xs : List ℕ) (vs : List Value) (i : ℕ) → i < length xs → i < length vs → new_locals (drop i xs) (drop i vs) ≡ with_local (new_locals (drop (i + 1) xs) (drop (i + 1) vs)) (get_or xs i 0) (Some (get_or vs i value.Unit))
-locals_more xs vs i h k = rw (add-one, drop-cons xs i 0 h, drop-cons vs i value.Unit k) refl
-
--- none
-pub locals_none : (xs : List ℕ) (vs : List Value) (i : ℕ) → length xs ≤ i → new_locals (drop i xs) (drop i vs) ≡ no_locals
-locals_none xs vs i h = rw (drop_all i xs h) refl
+-- what stands in a slot
+pub held_at : (vs : List (Option Value)) (x : ℕ) (o : Option (Option Value)) → o ≡ slice_get vs x → flat o ≡ held vs x
+held_at vs x o e = ap flat e ∙ sym (held_slice vs x)

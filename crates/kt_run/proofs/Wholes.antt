@@ -82,20 +82,20 @@ whole_ends p steps input h = ends (whole p steps input).ending (called_stays p (
 -- ---- the run
 
 -- `main`, over the trees of the program that the evaluator sees
-abbrev pub main_call : Program → ℕ → Run Value
-main_call p steps = called (bare p) (eval (bare p) steps) (p.functions p.main) []
+abbrev pub main_call : Program → ℕ → List Value → Run Value
+main_call p steps values = called (bare p) (eval (bare p) steps) (p.functions p.main) values
 
 -- the state in which a run begins
 abbrev pub first_state : List (Option Value) → ℕ → Kept
-first_state frame steps = record { frame = frame; calls = 0; steps = steps }
+first_state frame steps = record { frame = frame; calls = 0; steps = steps; cells = 0; text = 0 }
 
 begins : (frame : List (Option Value)) (steps : ℕ) (input : List ℕ) → held frame ≡ no_locals → seen (first_state frame steps) input ≡ start steps input
-begins frame steps input e = ap (λ (l : Locals). record { here = record { locals = l }; calls = 0; steps = steps; input = input }) e
+begins frame steps input e = ap (λ (l : Locals). record { here = record { locals = l }; calls = 0; steps = steps; cells = 0; text = 0; input = input }) e
 
-whole_is : (p : Program) (frame : List (Option Value)) (steps : ℕ) → held frame ≡ no_locals → NeverWrong p steps → (input : List ℕ) → whole p steps input ≡ main_call p steps (seen (first_state frame steps) input)
-whole_is p frame steps e h input = whole_bare p steps input (h input) ∙ ap (main_call p steps) (sym (begins frame steps input e))
+whole_is : (p : Program) (frame : List (Option Value)) (steps : ℕ) → held frame ≡ no_locals → NeverWrong p steps → (input : List ℕ) → whole p steps input ≡ main_call p steps [] (seen (first_state frame steps) input)
+whole_is p frame steps e h input = whole_bare p steps input (h input) ∙ ap (main_call p steps []) (sym (begins frame steps input e))
 
-pub main_right : (p : Program) (frame : List (Option Value)) (steps : ℕ) → held frame ≡ no_locals → NeverWrong p steps → Right (main_call p steps) (first_state frame steps)
+pub main_right : (p : Program) (frame : List (Option Value)) (steps : ℕ) → held frame ≡ no_locals → NeverWrong p steps → Right (main_call p steps []) (first_state frame steps)
 main_right p frame steps e h = record { right = λ input. subst (λ (o : Outcome Value). NotWrong o.ending) (whole_is p frame steps e h input) (h input) }
 
 at_end : (p : Program) (steps : ℕ) (input : List ℕ) (old new : OutputState) (e : Ending Value) (r : RunEnding) (events : List Event) → whole p steps input ≡ record { ending = e; events = events } → run_ending e ≡ Some r → PutsWhole old new (text_of events) → RunsWhole p steps input old new r
@@ -104,12 +104,14 @@ at_end p steps input old new e r events is told puts = record {
   puts = subst (λ (o : Outcome Value). PutsWhole old new (text_of o.events)) (sym is) puts;
 }
 
-pub runs_on : (p : Program) (frame : List (Option Value)) (steps : ℕ) (old : OutputState) (r : Result Value Halt) (t : Scene) → held frame ≡ no_locals → NeverWrong p steps → Runs (main_call p steps) (scene (first_state frame steps) old) r t → (input : List ℕ) → RunsOn p steps input old t.out (end_told r)
+pub runs_on : (p : Program) (frame : List (Option Value)) (steps : ℕ) (old : OutputState) (r : Result Value Halt) (t : Scene) → held frame ≡ no_locals → NeverWrong p steps → Runs (main_call p steps []) (scene (first_state frame steps) old) r t → (input : List ℕ) → RunsOn p steps input old t.out (end_told r)
 runs_on p frame steps old (Ok v) t e n h input = at_end p steps input old t.out (Gave v (seen t.state input)) ending.Done h.events (whole_is p frame steps e n input ∙ h.is input) refl h.puts
 runs_on p frame steps old (Err (halt.Way (way.Throw x))) t e n h input = at_end p steps input old t.out (Left (way.Throw x) (seen t.state input)) (ending.Uncaught x) h.events (whole_is p frame steps e n input ∙ h.is input) refl h.puts
 runs_on p frame steps old (Err (halt.Way (way.Return v))) t e n h input =
     absurd (subst (λ (o : Outcome Value). Stays o.ending) (h.is input) (called_stays (bare p) (eval (bare p) steps) (p.functions p.main) [] (seen (first_state frame steps) input)))
 runs_on p frame steps old (Err (halt.Over limit.Steps)) t e n h input = at_end p steps input old t.out (Over limit.Steps) ending.Steps h.events (whole_is p frame steps e n input ∙ h.is input) refl h.puts
 runs_on p frame steps old (Err (halt.Over limit.Calls)) t e n h input = at_end p steps input old t.out (Over limit.Calls) ending.Calls h.events (whole_is p frame steps e n input ∙ h.is input) refl h.puts
+runs_on p frame steps old (Err (halt.Over limit.Store)) t e n h input = at_end p steps input old t.out (Over limit.Store) ending.Store h.events (whole_is p frame steps e n input ∙ h.is input) refl h.puts
+runs_on p frame steps old (Err (halt.Over limit.Text)) t e n h input = at_end p steps input old t.out (Over limit.Text) ending.Text h.events (whole_is p frame steps e n input ∙ h.is input) refl h.puts
 runs_on p frame steps old (Err halt.OutputFault) t e n h input = subst (λ (o : Outcome Value). PutsFront old t.out (text_of o.events)) (sym (whole_is p frame steps e n input)) (h.front input)
 runs_on p frame steps old (Err halt.NoMemory) t e n h input = subst (λ (o : Outcome Value). PutsSome old t.out (text_of o.events)) (sym (whole_is p frame steps e n input)) (h.front input)

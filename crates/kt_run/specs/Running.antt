@@ -128,6 +128,8 @@ abbrev pub RunsOn : Program → ℕ → List ℕ → OutputState → OutputState
 RunsOn p steps input old new end.Done = RunsWhole p steps input old new ending.Done
 RunsOn p steps input old new end.Steps = RunsWhole p steps input old new ending.Steps
 RunsOn p steps input old new end.Calls = RunsWhole p steps input old new ending.Calls
+RunsOn p steps input old new end.Store = RunsWhole p steps input old new ending.Store
+RunsOn p steps input old new end.Text = RunsWhole p steps input old new ending.Text
 RunsOn p steps input old new (end.Uncaught e) = RunsWhole p steps input old new (ending.Uncaught e)
 RunsOn p steps input old new end.WriteFault = PutsFront old new (text_of (whole p steps input).events)
 RunsOn p steps input old new end.NoMemory = PutsSome old new (text_of (whole p steps input).events)
@@ -135,6 +137,8 @@ RunsOn p steps input old new end.NoMemory = PutsSome old new (text_of (whole p s
 abbrev pub end_of_limit : Limit → End
 end_of_limit limit.Steps = end.Steps
 end_of_limit limit.Calls = end.Calls
+end_of_limit limit.Store = end.Store
+end_of_limit limit.Text = end.Text
 
 -- what the answer of the call of `main` says of the run; no `return` leaves a call
 abbrev pub end_told : Result Value Halt → End

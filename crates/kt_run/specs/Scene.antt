@@ -14,7 +14,7 @@ use Rattle.kt_run.specs.declared.state.Halt.TheVariants as halt
 
 -- the evaluator's state as the meaning's, with this input left
 abbrev pub seen : Kept → List ℕ → State
-seen s input = record { here = record { locals = held s.frame }; calls = s.calls; steps = s.steps; input = input }
+seen s input = record { here = record { locals = held s.frame }; calls = s.calls; steps = s.steps; cells = s.cells; text = s.text; input = input }
 
 -- the evaluator's state and the output
 pub record Scene : Type 0 where
@@ -59,7 +59,7 @@ Runs p s (Err halt.NoMemory) t = RunsShort p s t
 -- what touches the state alone
 abbrev pub Quiet : {A : Type 0} → Run A → Kept → Result A Halt → Kept → Type 0
 Quiet p old (Ok a) new = (input : List ℕ) → p (seen old input) ≡ record { ending = Gave a (seen new input); events = [] }
-Quiet p old (Err (halt.Way w)) new = ⊥
+Quiet p old (Err (halt.Way w)) new = (input : List ℕ) → p (seen old input) ≡ record { ending = Left w (seen new input); events = [] }
 Quiet p old (Err (halt.Over k)) new = (input : List ℕ) → p (seen old input) ≡ record { ending = Over k; events = [] }
 Quiet p old (Err halt.OutputFault) new = ⊥
 Quiet p old (Err halt.NoMemory) new = Unit {0}

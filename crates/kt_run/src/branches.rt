@@ -30,7 +30,7 @@ impl<F> Evaluator<'_, '_, F> {
         ensures { Runs (spec.asked (program_seen self.now.resolved.now) (part self.now.resolved.now self.now.depth) (expr_tree (names self.now.resolved.now) e.now)) (scene state.old (O.state out.old)) result (scene state.new (O.state out.new)) }
     {
         let value = self.boxed(state, out, e)?;
-        Ok(truth(value))
+        Ok(truth(&value))
     }
 
     // Whether a condition holds, as a value.

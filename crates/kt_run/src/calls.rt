@@ -10,9 +10,9 @@ ghost use Rattle.kt_run.specs.Scene.{scene, Right, Runs};
 ghost use Rattle.kt_run.specs.Running.{program_seen, names, part, collected, call_run};
 ghost use Rattle.kt_run.specs.Nests.{Nests};
 
+use crate::built_ins::built_in;
 use crate::evaluator::{Evaluator, Node, ResolvedFile};
 use crate::frame::Frame;
-use crate::operators::built_in;
 use crate::single_steps::call_end;
 use crate::state::{Halt, State};
 use kt_mean::{Limit, Value};
@@ -82,7 +82,7 @@ impl<F> Evaluator<'_, '_, F> {
         ensures { Runs (with_values (program_seen self.now.resolved.now) (part self.now.resolved.now self.now.depth) (seen_trees (map (seen_in (names self.now.resolved.now)) arguments.now)) (spec.built_in name)) (scene state.old (O.state out.old)) result (scene state.new (O.state out.new)) }
     {
         let values = self.arguments(state, out, arguments)?;
-        built_in(out, name, values.as_slice())
+        built_in(self.resolved.alloc, state, out, name, values.as_slice())
     }
 
     fn call_function<O: Output>(
@@ -99,7 +99,7 @@ impl<F> Evaluator<'_, '_, F> {
         ensures { Runs (with_values (program_seen self.now.resolved.now) (part self.now.resolved.now self.now.depth) (seen_trees (map (seen_in (names self.now.resolved.now)) arguments.now)) (called (program_seen self.now.resolved.now) (part self.now.resolved.now self.now.depth) (function_at self.now.resolved.now.file.now self.now.resolved.now.uses.now place))) (scene state.old (O.state out.old)) result (scene state.new (O.state out.new)) }
     {
         let values = self.arguments(state, out, arguments)?;
-        self.apply(state, out, place, values.as_slice())
+        self.apply(state, out, place, values)
     }
 
     // A function of the file, with the values of its arguments.
@@ -108,13 +108,13 @@ impl<F> Evaluator<'_, '_, F> {
         state: &mut State,
         out: &mut O,
         place: u32,
-        values: &[Value],
+        values: Items<Value>,
     ) -> Result<Value, Halt>
     where
         F: Fn(u64, &ResolvedFile<'_>, &mut State, &mut O, Node<'_>) -> Result<Value, Halt>,
         requires nests { Nests self.now.depth self.now.resolved.now O.state (F.pre self.now.evaluate) (F.post self.now.evaluate) }
-        requires right { Right (called (program_seen self.now.resolved.now) (part self.now.resolved.now self.now.depth) (function_at self.now.resolved.now.file.now self.now.resolved.now.uses.now place) values.now) state.old }
-        ensures { Runs (called (program_seen self.now.resolved.now) (part self.now.resolved.now self.now.depth) (function_at self.now.resolved.now.file.now self.now.resolved.now.uses.now place) values.now) (scene state.old (O.state out.old)) result (scene state.new (O.state out.new)) }
+        requires right { Right (called (program_seen self.now.resolved.now) (part self.now.resolved.now self.now.depth) (function_at self.now.resolved.now.file.now self.now.resolved.now.uses.now place) values) state.old }
+        ensures { Runs (called (program_seen self.now.resolved.now) (part self.now.resolved.now self.now.depth) (function_at self.now.resolved.now.file.now self.now.resolved.now.uses.now place) values) (scene state.old (O.state out.old)) result (scene state.new (O.state out.new)) }
     {
         match self.resolved.file.functions.get(place as usize) {
             Some(function) => self.invoke(state, out, place, function, values),
@@ -129,14 +129,14 @@ impl<F> Evaluator<'_, '_, F> {
         out: &mut O,
         place: u32,
         function: &FunctionDecl,
-        values: &[Value],
+        values: Items<Value>,
     ) -> Result<Value, Halt>
     where
         F: Fn(u64, &ResolvedFile<'_>, &mut State, &mut O, Node<'_>) -> Result<Value, Halt>,
         requires nests { Nests self.now.depth self.now.resolved.now O.state (F.pre self.now.evaluate) (F.post self.now.evaluate) }
-        requires fits { length (parameters_at self.now.resolved.now.uses.now place) ≡ length values.now }
-        requires right { Right (limited (spec.invoke (program_seen self.now.resolved.now) (part self.now.resolved.now self.now.depth) (function_of self.now.resolved.now.uses.now place function.now) values.now)) state.old }
-        ensures { Runs (limited (spec.invoke (program_seen self.now.resolved.now) (part self.now.resolved.now self.now.depth) (function_of self.now.resolved.now.uses.now place function.now) values.now)) (scene state.old (O.state out.old)) result (scene state.new (O.state out.new)) }
+        requires fits { length (parameters_at self.now.resolved.now.uses.now place) ≡ length values }
+        requires right { Right (limited (spec.invoke (program_seen self.now.resolved.now) (part self.now.resolved.now self.now.depth) (function_of self.now.resolved.now.uses.now place function.now) values)) state.old }
+        ensures { Runs (limited (spec.invoke (program_seen self.now.resolved.now) (part self.now.resolved.now self.now.depth) (function_of self.now.resolved.now.uses.now place function.now) values)) (scene state.old (O.state out.old)) result (scene state.new (O.state out.new)) }
     {
         if state.calls >= MOST_CALLS {
             return Err(Halt::Over(Limit::Calls));

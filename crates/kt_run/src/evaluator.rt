@@ -1,21 +1,20 @@
 //! Evaluates the trees of a file. Each method owes the meaning of its form, whatever evaluates the parts.
-ghost use Rattle.std.specs.Prelude.{map, option_map};
+ghost use Rattle.std.specs.Prelude.{option_map};
 ghost use Rattle.kt_model.specs.declared.uses.Named.TheVariants as named;
-ghost use Rattle.kt_model.specs.BodyTrees.{Sign', Empty', First', expr_tree, stmt_tree, inserted_of, piece};
-ghost use Rattle.kt_mean.specs.Frames.{wrong};
+ghost use Rattle.kt_model.specs.BodyTrees.{Sign', Empty', First', expr_tree, stmt_tree};
 ghost use Rattle.kt_mean.specs.Evaluation.{with_values, operated, local_tree, assign_tree, entered};
 ghost use Rattle.kt_run.specs.Scene.{scene, Right, Runs};
 ghost use Rattle.kt_run.specs.Running.{program_seen, names, part, shape, tree_seen, local_run, assign_run, compound_run, operand_run};
 ghost use Rattle.kt_run.specs.Nests.{Nests};
 ghost use Rattle.kt_run.specs.Operators.{operation_of};
 
-use crate::operators::{Operator, combine, sign_of};
+use crate::operators::{Operator, combine, number, with_sign};
 use crate::single_steps::{Target, int_value, read, read_name, spend, store, write};
 use crate::state::{Halt, State};
 use kt_mean::Value;
 use kt_model::uses::{Named, Uses};
 use kt_outside::Output;
-use kt_tree::ast::{Assignment, Expr, ExprKind, File, Sign, Stmt, StringPart};
+use kt_tree::ast::{Assignment, Expr, ExprKind, File, Sign, Stmt};
 use sqlite_items::Boxed;
 use std::alloc::Global;
 
@@ -90,7 +89,7 @@ impl<F> Evaluator<'_, '_, F> {
         ensures { Runs (with_values (program_seen self.now.resolved.now) (part self.now.resolved.now self.now.depth) (First' (expr_tree (names self.now.resolved.now) e.now) Empty') (operated (Sign' sign))) (scene state.old (O.state out.old)) result (scene state.new (O.state out.new)) }
     {
         let value = self.boxed(state, out, e)?;
-        Ok(sign_of(sign, value))
+        Ok(Value::Int(with_sign(sign, number(&value))))
     }
 
     // An operator between two operands, from left to right.
@@ -110,31 +109,7 @@ impl<F> Evaluator<'_, '_, F> {
     {
         let left = self.boxed(state, out, a)?;
         let right = self.boxed(state, out, b)?;
-        let value = combine(operator, left, right)?;
-        Ok(value)
-    }
-
-    // A string: its parts are evaluated; what they are joined to is not open yet.
-    fn template<O: Output>(
-        &self,
-        state: &mut State,
-        out: &mut O,
-        parts: &[StringPart],
-    ) -> Result<Value, Halt>
-    where
-        F: Fn(u64, &ResolvedFile<'_>, &mut State, &mut O, Node<'_>) -> Result<Value, Halt>,
-        requires nests { Nests self.now.depth self.now.resolved.now O.state (F.pre self.now.evaluate) (F.post self.now.evaluate) }
-        requires right { Right (with_values (program_seen self.now.resolved.now) (part self.now.resolved.now self.now.depth) (inserted_of (map (piece (names self.now.resolved.now)) parts.now)) (λ vs. wrong)) state.old }
-        ensures { Runs (with_values (program_seen self.now.resolved.now) (part self.now.resolved.now self.now.depth) (inserted_of (map (piece (names self.now.resolved.now)) parts.now)) (λ vs. wrong)) (scene state.old (O.state out.old)) result (scene state.new (O.state out.new)) }
-    {
-        for piece in parts {
-            let e = match piece {
-                StringPart::Text(_) => continue,
-                StringPart::Inserted(e) => e,
-            };
-            let _value = self.part(state, out, Node::Expr(e))?;
-        }
-        unreachable!()
+        combine(self.resolved.alloc, state, operator, &left, &right)
     }
 
     // The declaration of a local.
@@ -258,9 +233,10 @@ impl<F> Evaluator<'_, '_, F> {
         requires right { Right (compound_run (program_seen self.now.resolved.now) (part self.now.resolved.now self.now.depth) target.local target.fixed (operation_of operator) (option_map (expr_tree (names self.now.resolved.now)) value.now)) state.old }
         ensures { Runs (compound_run (program_seen self.now.resolved.now) (part self.now.resolved.now self.now.depth) target.local target.fixed (operation_of operator) (option_map (expr_tree (names self.now.resolved.now)) value.now)) (scene state.old (O.state out.old)) result (scene state.new (O.state out.new)) }
     {
-        let old = read(state, target.local)?;
+        let alloc = self.resolved.alloc;
+        let old = read(alloc, state, target.local)?;
         let operand = self.operand(state, out, value)?;
-        let value = combine(operator, old, operand)?;
+        let value = combine(alloc, state, operator, &old, &operand)?;
         write(state, target, value)
     }
 

@@ -38,28 +38,25 @@ impl Frame {
     pub(crate) fn of_call(
         alloc: Global,
         parameters: &[u32],
-        values: &[Value],
+        mut values: Items<Value>,
     ) -> Result<Frame, AllocError>
-        requires { length parameters.now ≡ length values.now }
-        ensures { IfOk result (λ f. held f ≡ new_locals parameters.now values.now) }
+        requires { length parameters.now ≡ length values }
+        ensures { IfOk result (λ f. held f ≡ new_locals parameters.now values) }
     {
         let mut frame = Frame::new(alloc);
-        let mut i = parameters.len();
-        while i > 0 {
-            i -= 1;
-            frame.set(parameters[i], Some(values[i]))?;
+        while let Some(value) = values.pop() {
+            frame.set(parameters[values.len()], Some(value))?;
         }
         Ok(frame)
     }
 
-    /// What the local holds.
-    #[tactic(auto, using(crate::proofs::FrameLemmas::held_slice))]
-    pub(crate) fn get(&self, local: u32) -> Option<Value>
-        ensures { result ≡ held self.now local }
+    /// A copy of what the local holds; an error where there is no memory for a text.
+    pub(crate) fn get(&self, alloc: Global, local: u32) -> Result<Option<Value>, AllocError>
+        ensures { IfOk result (λ o. o ≡ held self.now local) }
     {
         match self.slots.get(local as usize) {
-            Some(slot) => *slot,
-            None => None,
+            Some(slot) => copied(alloc, slot),
+            None => Ok(None),
         }
     }
 
@@ -71,6 +68,19 @@ impl Frame {
         grow(&mut self.slots, local)?;
         self.slots.set(local as usize, value);
         Ok(())
+    }
+}
+
+// A copy of what a slot holds.
+fn copied(alloc: Global, slot: &Option<Value>) -> Result<Option<Value>, AllocError>
+    ensures { IfOk result (λ o. o ≡ slot.now) }
+{
+    match slot {
+        Some(value) => {
+            let copy = value.copied(alloc)?;
+            Ok(Some(copy))
+        }
+        None => Ok(None),
     }
 }
 

@@ -4,6 +4,7 @@
 #![tactic(auto)]
 
 mod branches;
+mod built_ins;
 mod calls;
 mod evaluator;
 mod frame;
@@ -11,5 +12,7 @@ mod operators;
 mod run;
 mod single_steps;
 mod state;
+mod strings;
+mod texts;
 
 pub use run::{End, run_file};

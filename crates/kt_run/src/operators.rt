@@ -1,19 +1,18 @@
-//! What is done with values. There is no answer for a wrong use: each function requires that none comes.
-ghost use Rattle.std.specs.Prelude.{◌≡◌, ◌++◌, ◌∷◌, [], Some, IsSome, IfSome, int_rem};
+//! Operators between values. There is no answer for a wrong use: each function requires that none comes.
+ghost use Rattle.std.specs.Prelude.{◌≡◌, ◌∷◌, [], Some, IsSome, int_rem};
 ghost use Rattle.std.specs.Int.{w32, int_wrapping_div};
-ghost use Rattle.kt_mean.specs.Evaluation.{text_of_value, compared, equal_by, same_value};
-ghost use Rattle.kt_outside.specs.Texts.{PutsAll};
-ghost use Rattle.kt_run.specs.Scene.{Prints};
-ghost use Rattle.kt_run.specs.Operators.{unless_zero, calculated, combined, with_sign, truth_in, printed};
+ghost use Rattle.kt_mean.specs.Frames.{pure};
+ghost use Rattle.kt_mean.specs.Evaluation as spec;
+ghost use Rattle.kt_mean.specs.Evaluation.{arithmetic_of, by_divisor, compared, equal_by, operated, same_value, sum_of};
+ghost use Rattle.kt_run.specs.Scene.{Right, Quiet};
+ghost use Rattle.kt_run.specs.Operators.{operation_of, number_in, truth_in};
 
-use crate::state::Halt;
-use itoa::Buffer;
-use kt_mean::{Exception, Value, Way};
-use kt_outside::{Output, PutFault, put_all};
+use crate::single_steps::throw;
+use crate::state::{Halt, State};
+use crate::texts::join;
+use kt_mean::{Exception, Value};
 use kt_tree::ast::{Arithmetic, Comparison, Equality, Sign};
-
-/// The number of the name of `println` in each name table.
-const PRINTLN: u32 = 20;
+use std::alloc::Global;
 
 /// An operator between two values.
 #[derive(Clone, Copy, Debug, PartialEq, Eq)]
@@ -25,46 +24,62 @@ pub(crate) enum Operator {
 }
 
 /// What an operator gives, or what it throws. Int has 32 bits and wraps.
-pub(crate) fn combine(operator: Operator, a: Value, b: Value) -> Result<Value, Way>
-    requires { IsSome (combined operator a b) }
-    ensures { combined operator a b ≡ Some result }
+pub(crate) fn combine(
+    alloc: Global,
+    state: &mut State,
+    operator: Operator,
+    a: &Value,
+    b: &Value,
+) -> Result<Value, Halt>
+    requires right { Right (operated (operation_of operator) (a.now ∷ b.now ∷ [])) state.old }
+    ensures { Quiet (operated (operation_of operator) (a.now ∷ b.now ∷ [])) state.old result state.new }
 {
-    match (operator, a, b) {
-        (Operator::Sum, Value::Int(a), Value::Int(b)) => Ok(Value::Int(a.wrapping_add(b))),
-        (Operator::Arithmetic(o), Value::Int(a), Value::Int(b)) => calculate(o, a, b),
-        (Operator::Compare(o), Value::Int(a), Value::Int(b)) => Ok(Value::Bool(compare(o, a, b))),
-        (Operator::Equal(o), a, b) => Ok(Value::Bool(is_equal(o, a, b))),
-        _ => unreachable!(),
+    match operator {
+        Operator::Sum => sum(alloc, state, a, b),
+        Operator::Arithmetic(o) => calculate(state, o, number(a), number(b)),
+        Operator::Compare(o) => Ok(Value::Bool(compare(o, number(a), number(b)))),
+        Operator::Equal(o) => Ok(Value::Bool(is_equal(o, a, b))),
     }
 }
 
-fn calculate(operator: Arithmetic, a: i32, b: i32) -> Result<Value, Way>
-    ensures { result ≡ calculated operator a b }
+// `+`: it joins texts where the left value is one.
+fn sum(alloc: Global, state: &mut State, a: &Value, b: &Value) -> Result<Value, Halt>
+    requires right { Right (sum_of (a.now ∷ b.now ∷ [])) state.old }
+    ensures { Quiet (sum_of (a.now ∷ b.now ∷ [])) state.old result state.new }
+{
+    match a {
+        Value::Text(text) => join(alloc, state, text, b),
+        _ => Ok(Value::Int(number(a).wrapping_add(number(b)))),
+    }
+}
+
+fn calculate(state: &mut State, operator: Arithmetic, a: i32, b: i32) -> Result<Value, Halt>
+    ensures { Quiet (arithmetic_of operator a b) state.old result state.new }
 {
     match operator {
         Arithmetic::Subtract => Ok(Value::Int(a.wrapping_sub(b))),
         Arithmetic::Multiply => Ok(Value::Int(a.wrapping_mul(b))),
-        Arithmetic::Divide => divide(a, b),
-        Arithmetic::Remainder => remainder(a, b),
+        Arithmetic::Divide => divide(state, a, b),
+        Arithmetic::Remainder => remainder(state, a, b),
     }
 }
 
 // The quotient, truncated towards zero.
-fn divide(a: i32, b: i32) -> Result<Value, Way>
-    ensures { result ≡ unless_zero b (int_wrapping_div w32 a b) }
+fn divide(state: &mut State, a: i32, b: i32) -> Result<Value, Halt>
+    ensures { Quiet (by_divisor b (pure (Value.Int (int_wrapping_div w32 a b)))) state.old result state.new }
 {
     if b == 0 {
-        return Err(Way::Throw(Exception::DivisionByZero));
+        return throw(state, Exception::DivisionByZero);
     }
     Ok(Value::Int(a.wrapping_div(b)))
 }
 
 // What a division leaves.
-fn remainder(a: i32, b: i32) -> Result<Value, Way>
-    ensures { result ≡ unless_zero b (int_rem a b) }
+fn remainder(state: &mut State, a: i32, b: i32) -> Result<Value, Halt>
+    ensures { Quiet (by_divisor b (pure (Value.Int (int_rem a b)))) state.old result state.new }
 {
     if b == 0 {
-        return Err(Way::Throw(Exception::DivisionByZero));
+        return throw(state, Exception::DivisionByZero);
     }
     Ok(Value::Int(a.wrapping_rem(b)))
 }
@@ -81,8 +96,8 @@ fn compare(comparison: Comparison, a: i32, b: i32) -> bool
 }
 
 // What `==` and `!=` say of two values.
-fn is_equal(equality: Equality, a: Value, b: Value) -> bool
-    ensures { result ≡ equal_by equality (same_value a b) }
+fn is_equal(equality: Equality, a: &Value, b: &Value) -> bool
+    ensures { result ≡ equal_by equality (same_value a.now b.now) }
 {
     let same = is_same(a, b);
     match equality {
@@ -91,100 +106,46 @@ fn is_equal(equality: Equality, a: Value, b: Value) -> bool
     }
 }
 
-fn is_same(a: Value, b: Value) -> bool
-    ensures { result ≡ same_value a b }
+fn is_same(a: &Value, b: &Value) -> bool
+    ensures { result ≡ same_value a.now b.now }
 {
     match (a, b) {
         (Value::Unit, Value::Unit) => true,
-        (Value::Bool(a), Value::Bool(b)) => a == b,
-        (Value::Int(a), Value::Int(b)) => a == b,
+        (Value::Bool(a), Value::Bool(b)) => *a == *b,
+        (Value::Int(a), Value::Int(b)) => *a == *b,
+        (Value::Text(a), Value::Text(b)) => a.bytes() == b.bytes(),
         _ => false,
     }
 }
 
 /// The truth of a value.
-pub(crate) fn truth(value: Value) -> bool
-    requires { IsSome (truth_in value) }
-    ensures { truth_in value ≡ Some result }
+pub(crate) fn truth(value: &Value) -> bool
+    requires { IsSome (truth_in value.now) }
+    ensures { truth_in value.now ≡ Some result }
 {
     match value {
-        Value::Bool(truth) => truth,
+        Value::Bool(truth) => *truth,
         _ => unreachable!(),
     }
 }
 
-/// What a sign makes of a value.
-pub(crate) fn sign_of(sign: Sign, value: Value) -> Value
-    requires { IsSome (with_sign sign value) }
-    ensures { with_sign sign value ≡ Some result }
-{
-    match (sign, value) {
-        (Sign::Minus, Value::Int(a)) => Value::Int(a.wrapping_neg()),
-        (Sign::Plus, Value::Int(a)) => Value::Int(a),
-        _ => unreachable!(),
-    }
-}
-
-/// What a built-in function does with its arguments: it prints.
-pub(crate) fn built_in<O: Output>(out: &mut O, name: u32, values: &[Value]) -> Result<Value, Halt>
-    requires { IsSome (printed name values.now) }
-    ensures { IfSome (printed name values.now) (λ text. Prints (O.state out.old) (O.state out.new) text result) }
-{
-    match values {
-        [] => end_line(out),
-        [value] => {
-            if name == PRINTLN {
-                print_line(out, *value)
-            } else {
-                print(out, *value)
-            }
-        }
-        _ => unreachable!(),
-    }
-}
-
-fn end_line<O: Output>(out: &mut O) -> Result<Value, Halt>
-    ensures { Prints (O.state out.old) (O.state out.new) (10 ∷ []) result }
-{
-    match put_all(out, b"\n") {
-        Ok(()) => Ok(Value::Unit),
-        Err(_) => Err(Halt::OutputFault),
-    }
-}
-
-fn print<O: Output>(out: &mut O, value: Value) -> Result<Value, Halt>
-    ensures { Prints (O.state out.old) (O.state out.new) (text_of_value value) result }
-{
-    match put_value(out, value) {
-        Ok(()) => Ok(Value::Unit),
-        Err(_) => Err(Halt::OutputFault),
-    }
-}
-
-// Puts the value's text and a line end.
-fn print_line<O: Output>(out: &mut O, value: Value) -> Result<Value, Halt>
-    ensures { Prints (O.state out.old) (O.state out.new) (text_of_value value ++ 10 ∷ []) result }
-{
-    match put_value(out, value) {
-        Ok(()) => {}
-        Err(_) => return Err(Halt::OutputFault),
-    }
-    match put_all(out, b"\n") {
-        Ok(()) => Ok(Value::Unit),
-        Err(_) => Err(Halt::OutputFault),
-    }
-}
-
-fn put_value<O: Output>(out: &mut O, value: Value) -> Result<(), PutFault>
-    ensures { PutsAll (O.state out.old) (O.state out.new) (text_of_value value) result }
+/// The number of a value.
+pub(crate) fn number(value: &Value) -> i32
+    requires { IsSome (number_in value.now) }
+    ensures { number_in value.now ≡ Some result }
 {
     match value {
-        Value::Unit => put_all(out, b"kotlin.Unit"),
-        Value::Bool(true) => put_all(out, b"true"),
-        Value::Bool(false) => put_all(out, b"false"),
-        Value::Int(number) => {
-            let mut buffer = Buffer::new();
-            put_all(out, buffer.format(number).as_bytes())
-        }
+        Value::Int(number) => *number,
+        _ => unreachable!(),
+    }
+}
+
+/// What a sign makes of a number.
+pub(crate) fn with_sign(sign: Sign, a: i32) -> i32
+    ensures { result ≡ spec.signed sign a }
+{
+    match sign {
+        Sign::Minus => a.wrapping_neg(),
+        Sign::Plus => a,
     }
 }

@@ -11,10 +11,11 @@ use kt_mean::{Exception, Limit, Value, Way};
 use kt_model::uses::Uses;
 use kt_outside::Output;
 use kt_tree::ast::File;
+use sqlite_items::Items;
 use std::alloc::Global;
 
 /// How a run ends.
-#[derive(Clone, Copy, Debug, PartialEq, Eq)]
+#[derive(Drop)]
 pub enum End {
     /// `main` ended.
     Done,
@@ -22,6 +23,10 @@ pub enum End {
     Steps,
     /// One more call was made than may be under way at once.
     Calls,
+    /// An object would have taken more cells than there may be.
+    Store,
+    /// A text would have had more bytes than the texts of a run may have.
+    Text,
     /// An exception left `main`.
     Uncaught(Exception),
     /// A put failed, and nothing was put after it.
@@ -32,8 +37,8 @@ pub enum End {
 
 /// Runs the function at the place `main` of a file with so many steps, and puts its text on `out`.
 ///
-/// `Done`, `Steps`, `Calls` and `Uncaught` come exactly where the written meaning ends so; `WriteFault` only where a put failed. The input is not asked yet, so the
-/// answer is that for every input. Which trees are dead is not looked at: the answer is that with any trees dead that no input leads to.
+/// `Done`, `Steps`, `Calls`, `Store`, `Text` and `Uncaught` come exactly where the written meaning ends so; `WriteFault` only where a put failed. The input is not asked
+/// yet, so the answer is that for every input. Which trees are dead is not looked at: the answer is that with any trees dead that no input leads to.
 pub fn run_file<O: Output>(
     alloc: Global,
     file: &File,
@@ -51,13 +56,15 @@ pub fn run_file<O: Output>(
         frame: Frame::new(alloc),
         calls: 0,
         steps,
+        cells: 0,
+        text: 0,
     };
     let evaluator = Evaluator {
         depth: steps,
         resolved: &resolved,
         evaluate: evaluate::<O>,
     };
-    end_of(evaluator.apply(&mut state, out, main, &[]))
+    end_of(evaluator.apply(&mut state, out, main, Items::new(alloc)))
 }
 
 fn end_of(answer: Result<Value, Halt>) -> End
@@ -69,6 +76,8 @@ fn end_of(answer: Result<Value, Halt>) -> End
         Err(Halt::Way(Way::Throw(exception))) => End::Uncaught(exception),
         Err(Halt::Over(Limit::Steps)) => End::Steps,
         Err(Halt::Over(Limit::Calls)) => End::Calls,
+        Err(Halt::Over(Limit::Store)) => End::Store,
+        Err(Halt::Over(Limit::Text)) => End::Text,
         Err(Halt::OutputFault) => End::WriteFault,
         Err(Halt::NoMemory) => End::NoMemory,
     }

@@ -1,6 +1,7 @@
 //! Single steps: they touch the state alone.
 ghost use Rattle.std.specs.Prelude.{◌≡◌, MatchResult, pos};
 ghost use Rattle.kt_mean.specs.Evaluation as spec;
+ghost use Rattle.kt_mean.specs.Evaluation.{throws};
 ghost use Rattle.kt_mean.specs.Programs.{is_expression};
 ghost use Rattle.kt_mean.specs.declared.states.Value.TheVariants as value;
 ghost use Rattle.kt_run.specs.declared.state.Halt.TheVariants as halt;
@@ -9,9 +10,16 @@ ghost use Rattle.kt_run.specs.Running.{names, name_run, answered};
 
 use crate::evaluator::ResolvedFile;
 use crate::state::{Halt, State};
-use kt_mean::{Limit, Value, Way};
+use kt_mean::{Exception, Limit, Value, Way};
 use kt_model::uses::Named;
 use kt_tree::ast::FunctionBody;
+use std::alloc::Global;
+
+/// The cells that objects may take.
+const MOST_CELLS: u32 = 1_048_576;
+
+/// The cells of an exception, which has one field: its message.
+const EXCEPTION_CELLS: u32 = 2;
 
 /// A local that is assigned, and whether it is assigned only once.
 #[derive(Clone, Copy)]
@@ -32,13 +40,34 @@ pub(crate) fn spend(state: &mut State) -> Result<(), Halt>
     Ok(())
 }
 
-/// What the local holds. There is a value, since no wrong use comes.
+/// Takes so many cells for a new object.
+fn take_cells(state: &mut State, count: u32) -> Result<(), Halt>
+    ensures { Quiet (spec.take_cells count) state.old result state.new }
+{
+    let cells = state.cells.saturating_add(count);
+    if cells > MOST_CELLS {
+        return Err(Halt::Over(Limit::Store));
+    }
+    state.cells = cells;
+    Ok(())
+}
+
+/// Throws: the exception is a new object.
+pub(crate) fn throw(state: &mut State, exception: Exception) -> Result<Value, Halt>
+    ensures { Quiet (throws exception) state.old result state.new }
+{
+    take_cells(state, EXCEPTION_CELLS)?;
+    Err(Halt::Way(Way::Throw(exception)))
+}
+
+/// A copy of what the local holds. There is a value, since no wrong use comes.
 #[tactic(auto, unfolding(kt_mean::specs::Evaluation::read, kt_mean::specs::Frames::pure, kt_mean::specs::Frames::wrong))]
-pub(crate) fn read(state: &mut State, local: u32) -> Result<Value, Halt>
+pub(crate) fn read(alloc: Global, state: &mut State, local: u32) -> Result<Value, Halt>
     requires right { Right (spec.read local) state.old }
     ensures { Quiet (spec.read local) state.old result state.new }
 {
-    match state.frame.get(local) {
+    let held = state.frame.get(alloc, local)?;
+    match held {
         Some(value) => Ok(value),
         None => unreachable!(),
     }
@@ -54,7 +83,7 @@ pub(crate) fn read_name(
     ensures { Quiet (name_run (names resolved.now tree)) state.old result state.new }
 {
     match resolved.uses.named(tree) {
-        Named::Variable(local, _) => read(state, local),
+        Named::Variable(local, _) => read(resolved.alloc, state, local),
         _ => unreachable!(),
     }
 }

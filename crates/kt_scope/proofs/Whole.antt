@@ -44,8 +44,8 @@ unfolding file_events
 whole file tops start events r t s e at =
     subst (λ x. Reaches (top_names file) (tops_of file) (reverse x) r) e (subst (λ x. Reaches (top_names file) x (reverse events) r) (s ∙ ap (λ x. map built_in_declaration built_in_functions ++ function_declarations x 0 file.functions) t) (subst (λ x. Reaches x start (reverse events) r) t at))
 
-pub first_is : (file : File) → 2 + length file.functions ≡ first_variable (top_names file)
-first_is file = ap (λ n. 2 + n) (sym (length-map file.functions (λ (f : FunctionDecl). f.name.name)))
+pub first_is : (file : File) → 5 + length file.functions ≡ first_variable (top_names file)
+first_is file = ap (λ n. 5 + n) (sym (length-map file.functions (λ (f : FunctionDecl). f.name.name)))
 
 -- the same rows in another order
 pub same_rows : {A : Type 0} (rows sorted : List A) → IsPermutation rows sorted → (row : A) → Contains sorted row ↔ Contains rows row

@@ -1,14 +1,14 @@
 //! The declarations of what has a name outside of functions, and those of each function's parameters.
-ghost use Rattle.std.specs.Prelude.{◌≡◌, ◌++◌, ◌+◌, false, Some, map, length, IfOk};
-ghost use Rattle.kt_model.specs.declared.uses.DeclarationKind.TheVariants as kind;
+ghost use Rattle.std.specs.Prelude.{◌≡◌, ◌++◌, ◌+◌, map, length, IfOk};
 ghost use Rattle.std.specs.List.{range_with_len};
-ghost use Rattle.kt_model.specs.BuiltIns.{built_in_functions, unit_type};
+ghost use Rattle.kt_model.specs.BuiltIns.{built_in_functions};
 ghost use Rattle.kt_model.specs.Outlines.{function_result};
-ghost use Rattle.kt_model.specs.DeclarationRules.{first_place, gives_unit};
+ghost use Rattle.kt_model.specs.DeclarationRules.{gives_unit};
 ghost use Rattle.kt_model.specs.Scopes.{built_in_declaration, first_function, function_declaration, function_declarations, is_nothing, declared_count, parameters_from};
 
 use crate::events::{of_function, of_parameters};
 use crate::resolver::type_of;
+use kt_model::built_ins::{BuiltIn, check, error, print, println, require};
 use kt_model::class_table::Numbers;
 use kt_model::kinds::{Head, KtType};
 use kt_model::name_events::NameEvent;
@@ -19,30 +19,31 @@ use kt_tree::{NoMemory, Span};
 use sqlite_items::Items;
 use std::alloc::Global;
 
-/// The declaration of a built-in function with the result `Unit`, by its name's number.
-fn built_in(name: u32) -> Declaration
-    ensures { result ≡ record { kind = kind.BuiltIn; name = name; span = first_place; is_var = false; is_nothing = false; written = Some unit_type } }
+/// The declaration of a built-in function.
+fn built_in(function: BuiltIn) -> Declaration
+    ensures { result ≡ built_in_declaration function }
 {
+    let written = Some(function.result);
     Declaration {
         kind: DeclarationKind::BuiltIn,
-        name,
+        name: function.name,
         span: Span { start: 0, end: 0 },
         is_var: false,
-        is_nothing: false,
-        written: Some(KtType {
-            head: Head::Unit,
-            nullable: false,
-        }),
+        is_nothing: never_returns(written),
+        written,
     }
 }
 
-/// The declarations of the built-in functions: `println` and `print`.
+/// The declarations of the built-in functions that are open.
 fn built_ins(alloc: Global) -> Result<Vec<Declaration>, NoMemory>
     ensures { IfOk result (λ declared. declared.items ≡ map built_in_declaration built_in_functions) }
 {
     let mut declared = Vec::new(alloc);
-    declared.push(built_in(20))?;
-    declared.push(built_in(21))?;
+    declared.push(built_in(println()))?;
+    declared.push(built_in(print()))?;
+    declared.push(built_in(require()))?;
+    declared.push(built_in(check()))?;
+    declared.push(built_in(error()))?;
     Ok(declared)
 }
 

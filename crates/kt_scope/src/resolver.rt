@@ -13,6 +13,7 @@ ghost use Rattle.kt_scope.specs.declared.scopes.Open.TheVariants.{Scope, Variabl
 ghost use Rattle.kt_scope.specs.Stack.{variable_in, is_declared_in, top_of, value_findings, call_findings, Reaches};
 
 use crate::scopes::{Open, close, is_declared, variable};
+use kt_model::built_ins::BUILT_IN_FUNCTIONS;
 use kt_model::finding::{Finding, Rule};
 use kt_model::kinds::{Head, KtType};
 use kt_model::name_events::NameEvent;
@@ -47,6 +48,9 @@ pub(crate) fn top_name(tops: &TopNames, name: u32) -> TopName
     match name {
         20 => TopName::BuiltIn(0),
         21 => TopName::BuiltIn(1),
+        23 => TopName::BuiltIn(2),
+        24 => TopName::BuiltIn(3),
+        25 => TopName::BuiltIn(4),
         _ => TopName::Unnamed,
     }
 }
@@ -78,10 +82,10 @@ fn push_use(rows: &mut Vec<UseRow>, tree: u32, declaration: u32) -> Result<(), N
 fn function_declaration(place: usize) -> Result<u32, NoMemory>
     ensures { IfOk result (λ declaration. declaration ≡ first_function + place) }
 {
-    if place > 4294967293 {
+    if place > 4294967290 {
         return Err(NoMemory);
     }
-    Ok(place as u32 + 2)
+    Ok((BUILT_IN_FUNCTIONS + place) as u32)
 }
 
 /// The type that a word names, or `Any` where it names none.

@@ -12,6 +12,7 @@ ghost use Rattle.kt_model.specs.Scopes.{declarations_of, looking_back, use_by, I
 use crate::declarations::{parameters, top_declarations};
 use crate::events::of_functions;
 use crate::resolver::{Resolver, go_over};
+use kt_model::built_ins::BUILT_IN_FUNCTIONS;
 use kt_model::class_table::ClassTable;
 use kt_model::finding::{Finding, Findings, PhaseFault, in_order};
 use kt_model::top_names::TopNames;
@@ -91,6 +92,6 @@ pub fn resolve(alloc: Global, file: &File, _table: &ClassTable) -> Result<Uses, 
     }
     let rows = in_order_of_trees(rows)?;
     let functions = file.functions.as_slice();
-    let parameters = parameters(alloc, 2 + functions.len(), functions)?;
+    let parameters = parameters(alloc, BUILT_IN_FUNCTIONS + functions.len(), functions)?;
     Ok(Uses::new(Items::from_vec(declared), Items::from_vec(rows), parameters))
 }

@@ -1,5 +1,5 @@
 -- A file in which no rule on bodies is violated has an accepted program.
-use Rattle.std.proofs.Common.{◌≡◌, ℕ, Bool, true, false, List, [], ◌∷◌, Contains, Option, Some, None, IsSome, option_map, slice_get, inl, inr, refl, sym, ap, subst, ◌∙◌, arith}
+use Rattle.std.proofs.Common.{◌≡◌, ◌↔◌, IsTrue, ℕ, Bool, true, false, List, [], ◌∷◌, Contains, Option, Some, None, IsSome, option_map, slice_get, inl, inr, refl, sym, ap, subst, ◌∙◌, arith}
 use Rattle.std.proofs.lemmas.Bool.{false≢true}
 use Rattle.kt_tree.specs.declared.ast.declaration.File.{File}
 use Rattle.kt_tree.specs.declared.ast.declaration.FunctionBody.{FunctionBody}
@@ -11,7 +11,7 @@ use Rattle.kt_model.specs.ControlFlow.{body_edges}
 use Rattle.kt_paths.specs.FlowRules.{assigned_on, IsFlowViolated, unassigned, val_twice, IsEndReached, IsEndViolated, no_return}
 use Rattle.kt_model.specs.NameUses.{Resolved, declaration_type, function_place}
 use Rattle.kt_model.specs.Outlines.{outlines_of}
-use Rattle.kt_typing.specs.Typing.{unit, body_judged}
+use Rattle.kt_typing.specs.Typing.{IsLeft, SettlesLeft, unit, body_judged}
 use Rattle.kt_model.specs.declared.finding.Finding.{Finding}
 use Rattle.kt_model.specs.declared.graph.Variable.TheVariants.{Local}
 use Rattle.kt_model.specs.declared.uses.Owner.TheVariants as owner
@@ -32,7 +32,7 @@ use Rattle.kt_sound.proofs.WrittenBodies.{has_body}
 
 built_in : (file : File) → HasBuiltInClasses (file_classes file)
 unfolding outlines_of
-built_in file = record { any_class = refl; unit_class = refl; boolean_class = refl; int_class = refl }
+built_in file = record { any_class = refl; unit_class = refl; boolean_class = refl; int_class = refl; string_class = refl }
 
 -- ---- bodies
 
@@ -69,6 +69,12 @@ end_unreached file uses place d e there none block_form other reached = by d.bod
 end_same : (parameters xs : List ℕ) (body ts : Trees) → xs ≡ parameters → ts ≡ body → IsEndReached xs ts → IsEndReached parameters body
 end_same parameters xs body ts e f h = subst (λ z. IsEndReached z body) e (subst (λ z. IsEndReached xs z) f h)
 
+abbrev left_same : (parameters xs : List ℕ) (body ts : Trees) → xs ≡ parameters → ts ≡ body → SettlesLeft parameters body → SettlesLeft xs ts
+left_same parameters xs body ts e f s = record { is_left = s.is_left; by_paths = λ tree. left_at tree (s.by_paths tree) }
+  where
+    left_at : (tree : ℕ) → IsTrue (s.is_left tree) ↔ IsLeft parameters body tree → IsTrue (s.is_left tree) ↔ IsLeft xs ts tree
+    left_at tree h = subst (λ z. IsTrue (s.is_left tree) ↔ IsLeft z ts tree) (sym e) (subst (λ z. IsTrue (s.is_left tree) ↔ IsLeft parameters z tree) (sym f) h)
+
 fine_same : (parameters xs : List ℕ) (body ts : Trees) → xs ≡ parameters → ts ≡ body → IsFine (body_edges parameters body) body → IsFine (body_edges xs ts) ts
 fine_same parameters xs body ts e f h = subst (λ z. IsFine (body_edges z ts) ts) (sym e) (subst (λ z. IsFine (body_edges parameters z) z) (sym f) h)
 
@@ -81,10 +87,12 @@ module _ (file : File) (uses : Resolved) (main : ℕ) (p : Program) (a : AreBodi
       let here = is_function file uses place f e in
       let body = a.bodies place here.there in
       let d = got file.functions place here.there in
+      let left = left_same _ f.parameters _ f.body here.same_parameters here.same_body body.left in
       let same : function_of uses place d.0 ≡ f = some-some (function_of uses place d.0) f (sym (ap (λ o. option_map (function_of uses place) o) d.1) ∙ e) in
       record {
         resolved = resolved_body file uses a.resolved p functions_are (λ x. ap (λ (q : Program). q.written x) is.program) place f here.same_parameters here.same_body;
-        typed = no_element (body_judged file (file_classes file) uses (owner.Function place)).findings body.typed;
+        left = left;
+        typed = no_element (body_judged file (file_classes file) uses left.is_left (owner.Function place)).findings (λ x i. body.typed x (record { left = body.left; violated = i }));
         fine = fine_same _ f.parameters _ f.body here.same_parameters here.same_body (fine _ _ (λ x violated. body.flows x (inl violated)));
         ends = λ block_form other reached.
             end_unreached file uses place d.0 d.1 (has_body file a.members place d.0 d.1) (λ x violated. body.flows x (inr violated))

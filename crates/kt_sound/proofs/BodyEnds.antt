@@ -113,8 +113,8 @@ module _ {all : List Edge} where
         let left = Branch (on_true_of (out_of 0 t) exits) (in_of 0 b ∷ []) in
         let right = Branch (on_true_of (out_of 0 t) exits) (on_false_of (out_of 0 t) exits) in
         two (enter outside t (in_of 0 a ∷ [])) left right a b (out_of 0 t) exits (without left a) (without right b) w
-    without exits (If' n c a b) w =
-        let t = If' n c a b in
+    without exits (If' n braces c a b) w =
+        let t = If' n braces c a b in
         let out = out_of 0 t ∷ [] in
         let first = enter outside t (in_of 0 c ∷ []) in
         let asked = Branch (entry_of 0 out a) (entry_of 0 out b) in
@@ -300,8 +300,8 @@ module _ (P : Edge → Type 0) (otherwise : (n m : Node) → IsInner m → P (n,
         let last = test_edges outside (out_of 0 t) exits in
         three (enter outside t (in_of 0 a ∷ [])) (edges outside left a) (edges outside right b ++ last) (on_inner (in_of 0 t) (in_of 0 a ∷ []) (in_inner a)) (edges_all left a (follows a left (true_inner t exits h, in_inner b)))
         (All-append P (edges outside right b) last (edges_all right b (follows b right (true_inner t exits h, false_inner t exits h))) (test_all t exits refl h))
-    edges_all exits (If' n c a b) h =
-        let t = If' n c a b in
+    edges_all exits (If' n braces c a b) h =
+        let t = If' n braces c a b in
         let out = out_of 0 t ∷ [] in
         let asked = Branch (entry_of 0 out a) (entry_of 0 out b) in
         let last = leave_edges outside t exits in

@@ -31,7 +31,7 @@ use Rattle.kt_sound.specs.BodySoundness.{IsAcceptedBody, IsAcceptedProgram, Bodi
 use Rattle.kt_sound.proofs.TypingSteps.{none-some, some-some, known_parameters, written_parameters, written_trees}
 use Rattle.kt_sound.proofs.NoFinding.{not_open_none}
 use Rattle.kt_sound.proofs.ValueTypes.{unit_is}
-use Rattle.kt_sound.proofs.BodyStanding.{Place, Stands, Post, Eval, Keeps, with_result, KeepsEach}
+use Rattle.kt_sound.proofs.BodyStanding.{Place, Stands, Post, Eval, Keeps, in_body, KeepsEach}
 use Rattle.kt_sound.proofs.BodySteps.{within_left, within_right, leads_of, ready}
 use Rattle.kt_sound.proofs.BodyEnds.{plain_edges, plain_walked, all_within, end_reached}
 use Rattle.kt_sound.proofs.BodyLaws.{Setting, law_operation, law_name, law_paren}
@@ -53,7 +53,7 @@ keeps_tree p cx set go calls keeps (Paren' n e) = law_paren p cx go keeps n e
 keeps_tree p cx set go calls keeps (Not' n e) = law_not p cx set go keeps n e
 keeps_tree p cx set go calls keeps (And' n b c) = law_and p cx set go keeps n b c
 keeps_tree p cx set go calls keeps (Or' n b c) = law_or p cx set go keeps n b c
-keeps_tree p cx set go calls keeps (If' n c b d) = law_if p cx set go keeps n c b d
+keeps_tree p cx set go calls keeps (If' n braces c b d) = law_if p cx set go keeps n braces c b d
 keeps_tree p cx set go calls keeps (Declare' n x) = law_declare p cx set go n x
 keeps_tree p cx set go calls keeps (Local' n at x e) = law_local p cx set go keeps n at x e
 keeps_tree p cx set go calls keeps (Assign' n at x fixed e) = law_assign p cx set go keeps n at x fixed e
@@ -86,22 +86,22 @@ Callees p cx = (place : ℕ) (f : Function) (s : Signature) → p.functions plac
 calls_keep : (p : Program) (cx : TypeContext) → Callees p cx → (go : Eval) → KeepsEach p cx go → CallsKeep p cx go
 calls_keep p cx callees go keeps place f s e i = let c = callees place f s e i in record { result = c.0.result; signature = c.1; post = callee_post go keeps f s.result c.0 }
 
-setting_of : (p : Program) (cx : TypeContext) → Setting p cx → (result : Option KtType) → Setting p (with_result cx result)
-setting_of p cx set result = record { built_in = set.built_in; written = set.written }
+setting_of : (p : Program) (cx : TypeContext) → Setting p cx → (result : Option KtType) (is_left : ℕ → Bool) → Setting p (in_body cx result is_left)
+setting_of p cx set result is_left = record { built_in = set.built_in; written = set.written }
 
--- The induction is on the number alone, for bodies of functions with any result.
+-- The induction is on the number alone, for all bodies.
 keeps_eval : (p : Program) (cx : TypeContext) → Setting p cx → Callees p cx → (depth : ℕ) → KeepsEach p cx (eval p depth)
 unfolding eval entered ◌>>=◌ spend over
-keeps_eval p cx set callees zero result t g context exits way locals s w a st = tt
-keeps_eval p cx set callees (suc depth) result t g context exits way locals s w a st =
+keeps_eval p cx set callees zero result is_left t g context exits way locals s w a st = tt
+keeps_eval p cx set callees (suc depth) result is_left t g context exits way locals s w a st =
     let go = eval p depth in
     let keeps = keeps_eval p cx set callees depth in
-    let here = with_result cx result in
+    let here = in_body cx result is_left in
     let s' = record s { steps = s.steps - 1 } in
     let found = (judged here way locals t).found in
     spent_post g exits way found (choose (p.dead (number t)) wrong (tree_at p go t)) s (s.steps == 0)
     (alive_post g exits way found (p.dead (number t)) (tree_at p go t) s' (g.alive (in_of context.copy t) st.path st.is_path refl)
-    (keeps_tree p here (setting_of p cx set result) go (calls_keep p cx callees go keeps) (keeps result) t g context exits way locals s' w a (record { path = st.path; is_path = st.is_path; agrees = st.agrees })))
+    (keeps_tree p here (setting_of p cx set result is_left) go (calls_keep p cx callees go keeps) (keeps result is_left) t g context exits way locals s' w a (record { path = st.path; is_path = st.is_path; agrees = st.agrees })))
 
 -- ---- from the entry of a body
 
@@ -130,18 +130,18 @@ is_unit_result (Some t) h = by (is_unit t) refl
 
 module _ (file : File) (classes : Classes) (uses : Resolved) (p : Program) (a : IsAcceptedProgram file classes uses p) where
   abbrev context : TypeContext
-  context = context_of classes uses (owner.Function p.main)
+  context = context_of classes uses (λ n. true) (owner.Function p.main)
 
   -- that of a body
-  abbrev context_at : ℕ → TypeContext
-  context_at place = context_of classes uses (owner.Function place)
+  abbrev context_at : (ℕ → Bool) → ℕ → TypeContext
+  context_at left place = context_of classes uses left (owner.Function place)
 
   abbrev parameters_of : ℕ → List ℕ
   parameters_of place = parameters_at uses place
 
   -- the types of its parameters, and its trees and ways
-  abbrev types_of : ℕ → LocalTypes
-  types_of place = parameter_types (context_at place) [] (parameters_of place)
+  abbrev types_of : (ℕ → Bool) → ℕ → LocalTypes
+  types_of left place = parameter_types (context_at left place) [] (parameters_of place)
 
   abbrev trees_of : FunctionDecl → Trees
   trees_of d = body_trees_of (named_at uses) d.body
@@ -149,11 +149,11 @@ module _ (file : File) (classes : Classes) (uses : Resolved) (p : Program) (a : 
   abbrev ways_of : ℕ → FunctionDecl → Ways
   ways_of place d = body_ways (declaration_type uses (function_place place)) d.body
 
-  judged_of : (place : ℕ) (d : FunctionDecl) → slice_get file.functions place ≡ Some d
-      → body_judged file classes uses (owner.Function place) ≡ all_judged (context_at place) (ways_of place d) (types_of place) (trees_of d)
+  judged_of : (left : ℕ → Bool) (place : ℕ) (d : FunctionDecl) → slice_get file.functions place ≡ Some d
+      → body_judged file classes uses left (owner.Function place) ≡ all_judged (context_at left place) (ways_of place d) (types_of left place) (trees_of d)
   unfolding body_judged
-  judged_of place d e =
-      ap (λ o. all_judged (context_at place) (function_ways (declaration_type uses (function_place place)) o) (types_of place) (function_trees (named_at uses) o)) e
+  judged_of left place d e =
+      ap (λ o. all_judged (context_at left place) (function_ways (declaration_type uses (function_place place)) o) (types_of left place) (function_trees (named_at uses) o)) e
 
   abbrev edges_of : ℕ → FunctionDecl → List Edge
   edges_of place d = plain_edges (parameters_of place) (trees_of d)
@@ -177,11 +177,12 @@ module _ (file : File) (classes : Classes) (uses : Resolved) (p : Program) (a : 
       absurd (dead.unreached place (function_of uses place d) n path (ap (λ o. option_map (function_of uses place) o) e) walked refl tag)
 
   -- the place of a function
-  place_of : (place : ℕ) (d : FunctionDecl) → slice_get file.functions place ≡ Some d → IsAcceptedBody file classes uses p place (function_of uses place d) → Place p (context_at place)
+  place_of : (place : ℕ) (d : FunctionDecl) → slice_get file.functions place ≡ Some d → (accepted : IsAcceptedBody file classes uses p place (function_of uses place d))
+      → Place p (context_at accepted.left.is_left place)
   place_of place d e accepted = record {
     edges = edges_of place d;
     body = trees_of d;
-    locals = (all_judged (context_at place) (ways_of place d) (types_of place) (trees_of d)).locals;
+    locals = (all_judged (context_at accepted.left.is_left place) (ways_of place d) (types_of accepted.left.is_left place) (trees_of d)).locals;
     fine = record {
       reads = λ t x n path i is same effect walked. accepted.fine.reads t x n path i is same effect (walked_of place d (n ∷ path) walked);
       assigns = λ t x k n path i is same effect walked. accepted.fine.assigns t x k n path i is same effect (walked_of place d (n ∷ path) walked);
@@ -189,8 +190,10 @@ module _ (file : File) (classes : Classes) (uses : Resolved) (p : Program) (a : 
     alive = λ n path walked tag. alive_at place d e n path (walked_of place d (n ∷ path) walked) tag (p.dead n.tree) refl;
     calls = accepted.resolved.calls;
     stops = accepted.resolved.stops;
-    returns = accepted.resolved.returns;
-    as_written = written_trees (context_at place) (ways_of place d) (types_of place) (trees_of d) (written_parameters (context_at place) [] (parameters_of place) (λ x t w e. absurd (none-some (Some t) e)));
+    left = λ n path walked tag.
+        (accepted.left.by_paths n.tree).1 (record { node = n; same_tree = refl; leaves = tag; path = path; is_path = walked_of place d (n ∷ path) walked });
+    stops_built_in = accepted.resolved.stops_built_in;
+    as_written = written_trees (context_at accepted.left.is_left place) (ways_of place d) (types_of accepted.left.is_left place) (trees_of d) (written_parameters (context_at accepted.left.is_left place) [] (parameters_of place) (λ x t w e. absurd (none-some (Some t) e)));
   }
 
   form_of : (body : Option FunctionBody) (result : Option KtType) (t : KtType) → result ≡ Some t
@@ -212,9 +215,10 @@ module _ (file : File) (classes : Classes) (uses : Resolved) (p : Program) (a : 
       let third = all_edges outside (end_node ∷ []) (trees_of d) in
       let rest = within_right first (second ++ third) all in
       record {
+        is_left = accepted.left.is_left;
         place = here;
         ways = ways_of place d;
-        types = types_of place;
+        types = types_of accepted.left.is_left place;
         result = can.result_is;
         within = within_right second third rest;
         begins = λ vs st fit.
@@ -226,8 +230,8 @@ module _ (file : File) (classes : Classes) (uses : Resolved) (p : Program) (a : 
             } in
             ready outside (entry_of 0 (end_node ∷ []) (trees_of d)) (within_left second third rest) at_params;
         accepted = record {
-          known = known_parameters (context_at place) [] (parameters_of place) (λ x i. absurd (none-some None i));
-          none = subst (λ (j : Judgements). j.findings ≡ []) (judged_of place d e) accepted.typed;
+          known = known_parameters (context_at accepted.left.is_left place) [] (parameters_of place) (λ x i. absurd (none-some None i));
+          none = subst (λ (j : Judgements). j.findings ≡ []) (judged_of accepted.left.is_left place d e) accepted.typed;
           covered = λ x u i. i;
           inside = λ u i. has_contains (all_trees_in (trees_of d)) u i;
         };
@@ -286,7 +290,7 @@ none_fit written (x ∷ xs) e = absurd (omega (arith, e))
 
 pub bodies_never : BodiesNeverWrong
 bodies_never file classes uses p steps input a =
-    let cx = context_of classes uses (owner.Function p.main) in
+    let cx = context_of classes uses (λ n. true) (owner.Function p.main) in
     let set : Setting p cx = record { built_in = a.built_in; written = written_are file classes uses p a } in
     let callees = callees_of file classes uses p a in
     let f = some_of (p.functions p.main) (has_main file classes uses p a) in

@@ -1,27 +1,32 @@
 -- The laws of soundness: operations, names, parentheses.
-use Rattle.std.proofs.Common.{◌≡◌, ℕ, is_some, true, Option, Some, None, [], ◌∷◌, ◌++◌, inl, inr, refl, sym, ap, subst, ◌∙◌, arith}
+use Rattle.std.proofs.Common.{◌≡◌, ℕ, is_some, Bool, true, false, Contains, Option, Some, None, option_map, [], ◌∷◌, ◌++◌, inl, inr, refl, sym, ap, subst, ◌∙◌, arith}
 use Rattle.std.proofs.lemmas.Bool.{false≢true}
 use Rattle.kt_tree.specs.declared.token.Span.{Span}
-use Rattle.kt_model.specs.BodyTrees.{Operation, Mark, Tree, Trees, Operation', Name', Paren'}
-use Rattle.kt_model.specs.ControlFlow.{FlowContext, Exits, Then, Branch, in_of, out_of, enter, entry_of, if_returns, inside_of, test_edges, leave_edges, edges, all_edges}
+use Rattle.kt_model.specs.BodyTrees.{BuiltIn', Operation, Mark, Tree, Trees, Operation', Name', Paren'}
+use Rattle.kt_model.specs.ControlFlow.{FlowContext, Exits, Then, Branch, in_of, out_of, enter, entry_of, if_returns, returns_of, inside_of, test_edges, leave_edges, edges, all_edges}
+use Rattle.kt_model.specs.BuiltIns.{built_in_named}
+use Rattle.kt_model.specs.NodePaths.{assigned_after}
+use Rattle.kt_model.specs.declared.built_ins.BuiltIn.{BuiltIn}
+use Rattle.kt_model.specs.declared.graph.Variable.{Variable}
 use Rattle.kt_model.specs.declared.kinds.KtType.{KtType}
 use Rattle.kt_typing.specs.declared.claims.Way.{Way}
 use Rattle.kt_typing.specs.declared.claims.Way.TheVariants.{Unvalued, Plain, Inferred, Checked}
 use Rattle.kt_typing.specs.declared.claims.Claim.{Claim}
 use Rattle.kt_typing.specs.declared.claims.Claim.TheVariants as claim
-use Rattle.kt_typing.specs.Typing.{Each, TypeContext, look_up, no_trees, closed, have_types, count, operation_demand, is_text, first_of, apart, name_claim, inside, judged, all_judged, Judgements}
+use Rattle.kt_typing.specs.Typing.{Each, TypeContext, look_up, no_trees, built_in_signature, call_demand, closed, have_types, nothing, count, operation_demand, is_text, first_of, apart, name_claim, inside, judged, all_judged, Judgements}
 use Rattle.kt_model.proofs.ListLemmas.{Has}
 use Rattle.kt_mean.specs.declared.states.Value.{Value}
 use Rattle.kt_mean.specs.declared.states.Way.TheVariants.{Return, Throw}
 use Rattle.kt_mean.specs.Frames.{State, Ending, Gave, Left, Over, Wrong, Run, pure, wrong}
 use Rattle.kt_mean.specs.Evaluation.{Program, read, read_value, operated, tree_at}
-use Rattle.kt_model.specs.TreesWithin.{trees_in}
+use Rattle.kt_model.specs.TreesWithin.{trees_in, all_trees_in}
 use Rattle.kt_sound.specs.BodySoundness.{HasBuiltInClasses}
 use Rattle.kt_sound.proofs.NoFinding.{Stood, parts_none, closed_found, closed_stood, operation_decided, name_decided, typed_trees}
 use Rattle.kt_sound.proofs.ValueTypes.{Lies}
-use Rattle.kt_sound.proofs.Operations.{Yields, operation_yields, gives_of, gives-gives, breaks-gives}
-use Rattle.kt_sound.proofs.BodyStanding.{Place, Stands, Within, Gives, Post, Eval, KeepsAt, Keeps}
-use Rattle.kt_sound.proofs.BodySteps.{within_left, within_right, ready, quiet, enters, leaves, values_post}
+use Rattle.kt_sound.proofs.OperationEnds.{EndsIn, Yields}
+use Rattle.kt_sound.proofs.Operations.{operation_yields, call_gives, gives_of, gives-gives, breaks-gives}
+use Rattle.kt_sound.proofs.BodyStanding.{Place, Stands, Ready, Within, Gives, Post, Eval, KeepsAt, Keeps}
+use Rattle.kt_sound.proofs.BodySteps.{within_left, within_right, ready, stands_here, quiet, enters, leaves, values_post}
 
 -- what all places of a program share
 pub record Setting (p : Program) (cx : TypeContext) : Type 0 where
@@ -35,14 +40,30 @@ value_gives cx set way n parts c types h v l = gives_of cx.classes set.built_in 
 
 -- ---- operations
 
--- a tree that ends by what gives a value and changes no state, or throws
-pub yields_post : {p : Program} {cx : TypeContext} (g : Place p cx) (context : FlowContext) (t : Tree) (exits : Exits) (way : Way) (found : Option KtType) (d : KtType) (r : Run Value) (s : State) → Yields r d
-    → Within g.edges (leave_edges context t exits) → Stands g (out_of context.copy t) s → ((v : Value) → Lies v d → Gives way found v) → Post g exits way found (r s).ending
-yields_post g context t exits way found d r s y w st h =
-    elim (y.at s) [
-      | inl gave ↦ subst (λ e. Post g exits way found e) (sym gave.1.0) (leaves context t exits gave.0 w st, h gave.0 gave.1.1)
-      | inr thrown ↦ subst (λ e. Post g exits way found e) (sym thrown.1) tt
-    ]
+-- a tree that ends by an operation, which gives no value where its result is `Nothing`
+yields_post : {p : Program} {cx : TypeContext} (g : Place p cx) (context : FlowContext) (t : Tree) (returns : Bool) (exits : Exits) (way : Way) (found : Option KtType) (d : KtType) (r : Run Value) (s : State) → Yields r d
+    → ((x : Variable) (b : Bool) → assigned_after (out_of context.copy t).effects x b ≡ b) → Within g.edges (leave_edges context t exits) → Ready g (if_returns returns (out_of context.copy t)) s → (returns ≡ false → d ≡ nothing)
+    → ((v : Value) → Lies v d → Gives way found v) → Post g exits way found (r s).ending
+yields_post g context t returns exits way found d r s y same w ready stops h = by returns ready stops (r s).ending (y.at s)
+  where
+    by : (returns : Bool) → Ready g (if_returns returns (out_of context.copy t)) s → (returns ≡ false → d ≡ nothing) → (e : Ending Value) → EndsIn (λ v. Lies v d) s e → Post g exits way found e
+    by true ready stops (Gave v s') m = (leaves context t exits v w (stands_here m.1.here (quiet {ms = []} same ready)), h v m.0)
+    by false ready stops (Gave v s') m = absurd (false≢true (subst (λ u. Lies v u) (stops refl) m.0))
+    by returns ready stops (Left (Return v) s') m = absurd m
+    by returns ready stops (Left (Throw x) s') m = tt
+    by returns ready stops (Over l) m = tt
+    by returns ready stops Wrong m = m
+
+-- An operation that doesn't return has the type `Nothing`.
+stopped : {p : Program} {cx : TypeContext} (g : Place p cx) (n : Mark) (o : Operation) (parts : Trees) (text differ : Bool) (d : KtType) → Contains (all_trees_in g.body) (Operation' n o parts)
+    → (operation_demand n o text differ (count parts)).claim ≡ claim.Gives d → returns_of o ≡ false → d ≡ nothing
+stopped g n (BuiltIn' name false) parts text differ d i e stops = by (built_in_named name) refl e
+  where
+    by : (b : Option BuiltIn) → built_in_named name ≡ b → (call_demand (option_map built_in_signature b) n (count parts)).claim ≡ claim.Gives d → d ≡ nothing
+    by None is e = absurd (breaks-gives _ _ d e)
+    by (Some b) is e = sym (call_gives _ (built_in_signature b) n d e).1 ∙ g.stops_built_in n name parts b i is
+stopped g n (BuiltIn' name true) parts text differ d i e stops = absurd (false≢true (sym stops))
+stopped g n _ parts text differ d i e stops = absurd (false≢true (sym stops))
 
 pub law_operation : (p : Program) (cx : TypeContext) → Setting p cx → (go : Eval) → Keeps p cx go → (n : Mark) (o : Operation) (parts : Trees) → KeepsAt p cx (tree_at p go) (Operation' n o parts)
 unfolding edges judged trees_in Has
@@ -53,20 +74,19 @@ law_operation p cx set go keeps n o parts g context exits way locals s w a st =
     let differ = apart (all_judged cx (Each Plain) locals parts).each_found in
     let demand = operation_demand n o text differ (count parts) in
     let inner = all_judged cx demand.ways locals parts in
-    let returns = g.returns t (a.inside t (inl refl)) refl in
-    let ws = subst (λ b. Within g.edges (enter context t (entry_of context.copy (if_returns b out) parts) ++ (all_edges context (if_returns b out) parts ++ leave_edges context t exits))) returns w in
-    let w0 = within_left (enter context t (entry_of context.copy (out ∷ []) parts)) (all_edges context (out ∷ []) parts ++ leave_edges context t exits) ws in
-    let w1 = within_right (enter context t (entry_of context.copy (out ∷ []) parts)) (all_edges context (out ∷ []) parts ++ leave_edges context t exits) ws in
+    let next = if_returns (returns_of o) out in
+    let w0 = within_left (enter context t (entry_of context.copy next parts)) (all_edges context next parts ++ leave_edges context t exits) w in
+    let w1 = within_right (enter context t (entry_of context.copy next parts)) (all_edges context next parts ++ leave_edges context t exits) w in
     let none = parts_none cx way n inner demand.claim a.none in
     let types = (typed_trees cx demand.ways locals parts a.known none).types in
     let h = closed_stood cx way n inner demand.claim types (operation_decided n o text differ (count parts)) a.none in
-    values_post go keeps parts g context exits way (closed cx way n inner demand.claim).found demand.ways locals (out ∷ []) s (operated o)
-    (within_left (all_edges context (out ∷ []) parts) (leave_edges context t exits) w1)
+    values_post go keeps parts g context exits way (closed cx way n inner demand.claim).found demand.ways locals next s (operated o)
+    (within_left (all_edges context next parts) (leave_edges context t exits) w1)
     (record { known = a.known; none = none; covered = a.covered; inside = λ u i. a.inside u (inr i) })
-    (ready context (entry_of context.copy (out ∷ []) parts) w0 st)
+    (ready context (entry_of context.copy next parts) w0 st)
     (λ vs s' r all.
-    yields_post g context t exits way (closed cx way n inner demand.claim).found h.type (operated o vs) s' (operation_yields cx n o text differ locals parts h.type vs (λ e. e) h.gives all)
-    (within_right (all_edges context (out ∷ []) parts) (leave_edges context t exits) w1) (quiet (λ x b. refl) r) (value_gives cx set way n inner demand.claim types h))
+    yields_post g context t (returns_of o) exits way (closed cx way n inner demand.claim).found h.type (operated o vs) s' (operation_yields cx n o text differ locals parts h.type vs (λ e. e) h.gives all)
+    (λ x b. refl) (within_right (all_edges context next parts) (leave_edges context t exits) w1) r (stopped g n o parts text differ h.type (a.inside t (inl refl)) h.gives) (value_gives cx set way n inner demand.claim types h))
 
 -- ---- names
 

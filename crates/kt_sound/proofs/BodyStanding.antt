@@ -1,9 +1,11 @@
 -- Where a frame stands in the graph of its body, and what an evaluation keeps.
 use Rattle.std.proofs.Common.{◌≡◌, ℕ, is_some, Bool, true, false, Option, Some, None, List, [], ◌∷◌, Contains}
-use Rattle.std.specs.Prelude.{⊤, IsSome}
-use Rattle.kt_model.specs.BodyTrees.{Tree, Trees}
+use Rattle.std.specs.Prelude.{⊤, IsSome, IsTrue}
+use Rattle.kt_model.specs.BodyTrees.{BuiltIn', Mark, Operation', Tree, Trees}
+use Rattle.kt_model.specs.BuiltIns.{built_in_named}
+use Rattle.kt_model.specs.declared.built_ins.BuiltIn.{BuiltIn}
 use Rattle.kt_model.specs.ControlFlow.{Node, Edge, FlowContext, Exits, Then, Branch, in_of, edges}
-use Rattle.kt_model.specs.declared.graph.Tag.TheVariants.{In}
+use Rattle.kt_model.specs.declared.graph.Tag.TheVariants.{In, Out}
 use Rattle.kt_model.specs.declared.graph.Variable.TheVariants.{Local}
 use Rattle.kt_model.specs.declared.kinds.KtType.{KtType}
 use Rattle.kt_typing.specs.declared.claims.Way.{Way}
@@ -32,9 +34,11 @@ pub record Place (p : Program) (cx : TypeContext) : Type 0 where
   pub locals : LocalTypes
   pub fine : IsFine edges body
   pub alive : (n : Node) (path : List Node) → IsNodePath edges (n ∷ path) → n.tag ≡ In → p.dead n.tree ≡ false
+  pub left : (n : Node) (path : List Node) → IsNodePath edges (n ∷ path) → n.tag ≡ Out → IsTrue (cx.is_left n.tree)
   pub calls : (t : Tree) (f : ℕ) → Contains (all_trees_in body) t → called_by t ≡ Some f → IsSome (p.functions f)
   pub stops : (t : Tree) (f : ℕ) (callee : Function) → Contains (all_trees_in body) t → called_by t ≡ Some f → p.functions f ≡ Some callee → returns_at t ≡ false → callee.result ≡ Some nothing
-  pub returns : (t : Tree) → Contains (all_trees_in body) t → called_by t ≡ None → returns_at t ≡ true
+  pub stops_built_in : (n : Mark) (name : ℕ) (arguments : Trees) (b : BuiltIn) → Contains (all_trees_in body) (Operation' n (BuiltIn' name false) arguments)
+      → built_in_named name ≡ Some b → b.result ≡ nothing
   pub as_written : AsWritten cx.written locals
 
 -- The frame agrees with the path along which it came, and each value lies in the type of its local.
@@ -136,10 +140,10 @@ KeepsAt p cx f t =
 abbrev pub Keeps : (p : Program) (cx : TypeContext) → Eval → Type 0
 Keeps p cx f = (t : Tree) → KeepsAt p cx f t
 
--- the same context, but for the result of the function whose body it is
-abbrev pub with_result : TypeContext → Option KtType → TypeContext
-with_result cx result = record cx { result = result }
+-- the same context, but for the body: its function's result, and out of which of its trees a path leads
+abbrev pub in_body : TypeContext → Option KtType → (ℕ → Bool) → TypeContext
+in_body cx result is_left = record cx { result = result; is_left = is_left }
 
--- whatever that result
+-- in whatever body
 abbrev pub KeepsEach : (p : Program) (cx : TypeContext) → Eval → Type 0
-KeepsEach p cx f = (result : Option KtType) → Keeps p (with_result cx result) f
+KeepsEach p cx f = (result : Option KtType) (is_left : ℕ → Bool) → Keeps p (in_body cx result is_left) f

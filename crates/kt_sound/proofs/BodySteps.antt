@@ -90,7 +90,7 @@ in_quiet copy (Paren' n e) x b = refl
 in_quiet copy (Not' n e) x b = refl
 in_quiet copy (And' n c d) x b = refl
 in_quiet copy (Or' n c d) x b = refl
-in_quiet copy (If' n c d e) x b = refl
+in_quiet copy (If' n braces c d e) x b = refl
 in_quiet copy (Declare' n y) x b = refl
 in_quiet copy (Local' n at y e) x b = refl
 in_quiet copy (Assign' n at y fixed e) x b = refl
@@ -106,6 +106,13 @@ module _ {p : Program} {cx : TypeContext} {g : Place p cx} where
   -- a frame that stands at a node is ready for what the node's edges lead to
   pub ready : {n : Node} {s : State} (context : FlowContext) (ms : List Node) → Within g.edges (on context n ms) → Stands g n s → Ready g ms s
   ready {n} context ms w st = record { at = n; stands = st; leads = leads_of context n ms w }
+
+  -- in another state with the same frame
+  pub stands_here : {n : Node} {s s' : State} → s'.here ≡ s.here → Stands g n s → Stands g n s'
+  stands_here {n} e st = record { path = st.path; is_path = st.is_path; agrees = subst (λ f. Agrees g.locals (n ∷ st.path) f) (sym e) st.agrees }
+
+  pub ready_here : {ms : List Node} {s s' : State} → s'.here ≡ s.here → Ready g ms s → Ready g ms s'
+  ready_here e r = record { at = r.at; stands = stands_here e r.stands; leads = r.leads }
 
   -- one edge further
   pub step : {m : Node} {ms : List Node} {s : State} (s' : State) → Ready g (m ∷ ms) s → ((path : List Node) → Agrees g.locals path s.here → Agrees g.locals (m ∷ path) s'.here) → Stands g m s'

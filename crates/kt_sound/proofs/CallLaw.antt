@@ -17,14 +17,14 @@ use Rattle.kt_mean.specs.declared.states.Limit.TheVariants as limit
 use Rattle.kt_mean.specs.Frames.{Frame, State, Ending, Gave, Left, Over, Wrong, ◌>>=◌, pure, over, wrong, turned}
 use Rattle.kt_mean.specs.Evaluation.{Function, Program, choose, fits, most_calls, limited, arguments_fit, begun, resume, given, ended, call_end, block_from, block, invoke, called, tree_at}
 use Rattle.kt_model.specs.TreesWithin.{trees_in}
-use Rattle.kt_sound.proofs.TypingSteps.{some-some}
+use Rattle.kt_sound.proofs.TypingSteps.{some-some, found_count}
 use Rattle.kt_sound.proofs.NoFinding.{parts_none, closed_stood, call_decided, typed_trees}
 use Rattle.kt_sound.proofs.ValueTypes.{Lies}
 use Rattle.kt_sound.proofs.Operations.{breaks-gives, call_gives}
-use Rattle.kt_sound.proofs.BodyStanding.{Place, Agrees, Ready, Within, AllAccepted, Gives, AllGive, Post, Eval, KeepsAt, Keeps, with_result, KeepsEach}
-use Rattle.kt_sound.proofs.BodySteps.{within_left, within_right, ready, quiet, enters, leaves, accepted_first, value_post, values_post, block_post}
+use Rattle.kt_sound.proofs.BodyStanding.{Place, Ready, Within, AllAccepted, Gives, AllGive, Post, Eval, KeepsAt, Keeps, in_body, KeepsEach}
+use Rattle.kt_sound.proofs.BodySteps.{within_left, within_right, ready, ready_here, quiet, enters, leaves, accepted_first, value_post, values_post, block_post}
 use Rattle.kt_sound.proofs.BodyLaws.{Setting, value_gives}
-use Rattle.kt_sound.proofs.ParameterLaws.{found_count, same_count, checked_fit}
+use Rattle.kt_sound.proofs.ParameterLaws.{same_count, checked_fit}
 
 -- after a call, the frame that made it is as it was, and the value is of the callee's result
 abbrev pub CallPost : KtType → Frame → Ending Value → Type 0
@@ -58,19 +58,12 @@ called_ends Q p go o f vs s e fit over made =
     by true = made
     by false = over
 
-same_here : {p : Program} {cx : TypeContext} {g : Place p cx} {ms : List Node} {s s' : State} → s'.here ≡ s.here → Ready g ms s → Ready g ms s'
-same_here {g = g} e r = record {
-  at = r.at;
-  stands = record { path = r.stands.path; is_path = r.stands.is_path; agrees = subst (λ f. Agrees g.locals (r.at ∷ r.stands.path) f) (sym e) r.stands.agrees };
-  leads = r.leads;
-}
-
 -- A call that returns goes on from its `out`; one of a function whose result is `Nothing` gives no value.
 caller_post : {p : Program} {cx : TypeContext} (g : Place p cx) (context : FlowContext) (n : Mark) (f : ℕ) (returns : Bool) (arguments : Trees) (exits : Exits) (way : Way) (found : Option KtType) (d : KtType) (s : State) (e : Ending Value)
     → Within g.edges (leave_edges context (Call' n f returns arguments) exits) → Ready g (if_returns returns (out_of context.copy (Call' n f returns arguments))) s → (returns ≡ false → d ≡ nothing)
     → ((v : Value) → Lies v d → Gives way found v) → CallPost d s.here e → Post g exits way found e
 caller_post g context n f true arguments exits way found d s (Gave v s') w r stops h post =
-    (leaves context (Call' n f true arguments) exits v w (quiet {ms = []} (λ x b. refl) (same_here post.0 r)), h v post.1)
+    (leaves context (Call' n f true arguments) exits v w (quiet {ms = []} (λ x b. refl) (ready_here post.0 r)), h v post.1)
 caller_post g context n f false arguments exits way found d s (Gave v s') w r stops h post = absurd (false≢true (subst (λ t. Lies v t) (stops refl) post.1))
 caller_post g context n f returns arguments exits way found d s (Left (Return v) s') w r stops h post = absurd post
 caller_post g context n f returns arguments exits way found d s (Left (Throw x) s') w r stops h post = tt
@@ -164,10 +157,11 @@ expression_post {p} {cx} go keeps e g context way locals next v s w a r =
     (keeps e g context (Then next) way locals s (within_left (edges context (Then next) e) [] w) (accepted_first g (Each way) locals e Empty' a) (enters context.copy e r))
     (λ u s' r' gives. (r', gives))
 
--- A function that can be called, its result, and its place, whose context has that result. The types are those of its parameters. The graph has no jumps: a
+-- A function that can be called, its result, and its place, whose context is that of its body. The types are those of its parameters. The graph has no jumps: a
 -- `return` ends the evaluation.
 pub record Callee (p : Program) (cx : TypeContext) (f : Function) (d : KtType) : Type 0 where
-  pub place : Place p (with_result cx f.result)
+  pub is_left : ℕ → Bool
+  pub place : Place p (in_body cx f.result is_left)
   pub ways : Ways
   pub types : LocalTypes
   pub result : f.result ≡ Some d
@@ -207,7 +201,7 @@ callee_post {p} {cx} go keeps f d c vs s fit =
     end_post f d c s.here s.calls (block p go f.body s').ending
     (elim c.form [
       | inl block_form ↦ body_post c.place (Ended f d) (end_node ∷ []) Unvalued None (block p go f.body s').ending
-          (block_post go (keeps f.result) f.body c.place outside c.ways c.types (end_node ∷ []) value.Unit s' c.within c.accepted r)
+          (block_post go (keeps f.result c.is_left) f.body c.place outside c.ways c.types (end_node ∷ []) value.Unit s' c.within c.accepted r)
           (λ v t there gives. (λ i. absurd (false≢true (sym block_form ∙ i)), c.ends t there))
       | inr form ↦ expression_form form.0 form.1.0 form.1.1 s' r
     ])
@@ -215,7 +209,7 @@ callee_post {p} {cx} go keeps f d c vs s fit =
     expression_form : (e : Tree) → f.body ≡ First' e Empty' → c.ways ≡ Each (Checked d) → (s' : State) → Ready c.place (entry_of 0 (end_node ∷ []) f.body) s' → BodyPost c.place (Ended f d) (block p go f.body s').ending
     expression_form e is ways s' r =
         subst (λ ts. BodyPost c.place (Ended f d) (block p go ts s').ending) (sym is)
-        (body_post c.place (Ended f d) (end_node ∷ []) (Checked d) (judged (with_result cx f.result) (Checked d) c.types e).found (block p go (First' e Empty') s').ending
-        (expression_post go (keeps f.result) e c.place outside (Checked d) c.types (end_node ∷ []) value.Unit s' (subst (λ ts. Within c.place.edges (all_edges outside (end_node ∷ []) ts)) is c.within)
+        (body_post c.place (Ended f d) (end_node ∷ []) (Checked d) (judged (in_body cx f.result c.is_left) (Checked d) c.types e).found (block p go (First' e Empty') s').ending
+        (expression_post go (keeps f.result c.is_left) e c.place outside (Checked d) c.types (end_node ∷ []) value.Unit s' (subst (λ ts. Within c.place.edges (all_edges outside (end_node ∷ []) ts)) is c.within)
         (subst (λ ws. AllAccepted c.place ws c.types (First' e Empty')) ways (subst (λ ts. AllAccepted c.place c.ways c.types ts) is c.accepted)) (subst (λ ts. Ready c.place (entry_of 0 (end_node ∷ []) ts) s') is r))
         (λ v t there gives. (λ i. gives.1, c.ends t there)))

@@ -1,6 +1,6 @@
 -- The law of soundness: compound assignments.
-use Rattle.std.proofs.Common.{◌≡◌, ℕ, ℤ, pos, suc, nat_le, is_some, Bool, true, false, if◌then◌else◌, Option, Some, None, List, [], ◌∷◌, ◌++◌, Contains, inl, inr, refl, sym, ap, subst, ◌∙◌, arith, true≢false}
-use Rattle.std.proofs.lemmas.Bool.{cases_Bool, leb-true, false≢true}
+use Rattle.std.proofs.Common.{◌≡◌, ℕ, pos, suc, nat_le, is_some, Bool, true, false, if◌then◌else◌, Option, Some, None, List, [], ◌∷◌, ◌++◌, Contains, inl, inr, refl, sym, ap, subst, ◌∙◌, arith, true≢false}
+use Rattle.std.proofs.lemmas.Bool.{leb-true, false≢true}
 use Rattle.kt_tree.specs.declared.token.Span.{Span}
 use Rattle.kt_model.specs.Classes.{Classes}
 use Rattle.kt_model.specs.declared.finding.Rule.TheVariants.{Syntax}
@@ -16,40 +16,57 @@ use Rattle.kt_typing.specs.Typing.{Each, TypeContext, LocalTypes, look_up, in_fr
 use Rattle.kt_model.proofs.ListLemmas.{Has}
 use Rattle.kt_mean.specs.declared.states.Value.{Value}
 use Rattle.kt_mean.specs.declared.states.Value.TheVariants as value
-use Rattle.kt_mean.specs.Frames.{State, Run, ◌>>=◌, pure, wrong, ending_after}
+use Rattle.kt_mean.specs.declared.states.Way.TheVariants.{Return, Throw}
+use Rattle.kt_mean.specs.Frames.{State, Ending, Gave, Left, Over, Wrong, Run, ◌>>=◌, pure, wrong, ending_after}
 use Rattle.kt_mean.specs.Evaluation.{Program, read, read_value, write, operated, operand_or_one, tree_at}
 use Rattle.kt_model.specs.TreesWithin.{trees_in, all_trees_in}
+use Rattle.kt_sound.specs.BodySoundness.{HasBuiltInClasses}
 use Rattle.kt_sound.proofs.TypingSteps.{none_in, none-some, some-some, kept_trees}
 use Rattle.kt_sound.proofs.NoFinding.{parts_none, closed_stood, IsDecided, some_finding, old_known, old_typed, compound_decided, types_first, typed_trees}
-use Rattle.kt_sound.proofs.ValueTypes.{Lies, lies_above, int_of, no_texts}
-use Rattle.kt_sound.proofs.Operations.{Yields, sum_yields, arithmetic_yields, gives-gives, breaks-gives}
-use Rattle.kt_sound.proofs.BodyStanding.{Place, Ready, AllGive, Post, Eval, KeepsAt, Keeps}
-use Rattle.kt_sound.proofs.BodySteps.{within_left, within_right, ready, leaves, values_post}
+use Rattle.kt_sound.proofs.ValueTypes.{Lies, lies_above}
+use Rattle.kt_sound.proofs.OperationEnds.{Unmoved, EndsIn, Yields}
+use Rattle.kt_sound.proofs.Operations.{two_ints, sum_yields, arithmetic_yields, text_sum, gives-gives, breaks-gives}
+use Rattle.kt_sound.proofs.BodyStanding.{Place, Ready, Gives, AllGive, Post, Eval, KeepsAt, Keeps}
+use Rattle.kt_sound.proofs.BodySteps.{within_left, within_right, ready, ready_here, leaves, values_post}
 use Rattle.kt_sound.proofs.BodyLaws.{Setting, value_gives}
 use Rattle.kt_sound.proofs.LocalLaws.{Fit, fit_written, checked_post, put_stands, write_post}
 
 -- ---- compound assignments
 
--- an operator that works on numbers
-pub record OnNumbers (o : Operation) (op : Operator) : Type 0 where
-  pub is : op ≡ sum_operator false
-  pub yields : (a b : ℤ) → Yields (operated o (value.Int a ∷ value.Int b ∷ [])) int
+-- what an operator works on: a text and any value where it joins texts, else two numbers
+abbrev WorksOn : (joins : Bool) → Value → Value → Type 0
+WorksOn true v w = (t : KtType) × ((is_text (Some t) ≡ true) × Lies v t)
+WorksOn false v w = Lies v int × Lies w int
 
-numbers_sum : (text : Bool) (op : Operator) → text ≡ false → operator_of Sum' text ≡ Some op → OnNumbers Sum' op
-numbers_sum true op f e = absurd (true≢false f)
-numbers_sum false op f e = record { is = sym (some-some (sum_operator false) op e); yields = sum_yields }
+-- an operator that is open, which joins texts only where the left operand is one
+pub record Operates (o : Operation) (text : Bool) (op : Operator) : Type 0 where
+  pub joins : Bool
+  pub is : op ≡ sum_operator joins
+  pub of_text : joins ≡ true → text ≡ true
+  pub yields : (v w : Value) → WorksOn joins v w → Yields (operated o (v ∷ w ∷ [])) (sum_operator joins).gives
 
-numbers : (o : Operation) (text : Bool) (op : Operator) → text ≡ false → operator_of o text ≡ Some op → OnNumbers o op
-numbers (Int' k) text op f e = absurd (none-some op e)
-numbers (Bool' b) text op f e = absurd (none-some op e)
-numbers Null' text op f e = absurd (none-some op e)
-numbers (Template' texts) text op f e = absurd (none-some op e)
-numbers (Sign' s) text op f e = absurd (none-some op e)
-numbers Sum' text op f e = numbers_sum text op f e
-numbers (Arithmetic' o) text op f e = record { is = sym (some-some (sum_operator false) op e); yields = arithmetic_yields o }
-numbers (Compare' c) text op f e = absurd (none-some op e)
-numbers (Equal' c) text op f e = absurd (none-some op e)
-numbers (BuiltIn' name returns) text op f e = absurd (none-some op e)
+operates : (o : Operation) (text : Bool) (op : Operator) → operator_of o text ≡ Some op → Operates o text op
+operates (Int' k) text op e = absurd (none-some op e)
+operates (Bool' b) text op e = absurd (none-some op e)
+operates Null' text op e = absurd (none-some op e)
+operates (Template' texts) text op e = absurd (none-some op e)
+operates (Sign' s) text op e = absurd (none-some op e)
+operates Sum' true op e = record { joins = true; is = sym (some-some (sum_operator true) op e); of_text = λ i. refl; yields = λ v w on. text_sum v w on.0 on.1.0 on.1.1 }
+operates Sum' false op e = record {
+  joins = false;
+  is = sym (some-some (sum_operator false) op e);
+  of_text = λ i. absurd (false≢true i);
+  yields = λ v w on. two_ints (operated Sum') int v w sum_yields on.0 on.1;
+}
+operates (Arithmetic' a) text op e = record {
+  joins = false;
+  is = sym (some-some (sum_operator false) op e);
+  of_text = λ i. absurd (false≢true i);
+  yields = λ v w on. two_ints (operated (Arithmetic' a)) int v w (arithmetic_yields a) on.0 on.1;
+}
+operates (Compare' c) text op e = absurd (none-some op e)
+operates (Equal' c) text op e = absurd (none-some op e)
+operates (BuiltIn' name returns) text op e = absurd (none-some op e)
 
 -- what a compound assignment says that is not refused
 pub record CompoundSays (cx : TypeContext) (operator : Option Operator) (t : KtType) (k : ℕ) (d : KtType) : Type 0 where
@@ -79,16 +96,30 @@ old_under classes word o t e f = by (is_subtype classes t int) refl (subst (λ z
     by true i h = i
     by false i h = absurd (some_finding _ h)
 
--- the operand is a number, which is 1 where none is written
-operand_int : (cx : TypeContext) (locals : LocalTypes) (operand : Trees) (vs : List Value) → nat_le (count operand) 1 ≡ true → AllGive (Each (Checked int)) (all_judged cx (Each (Checked int)) locals operand).each_found vs
-    → (b : ℤ) × (operand_or_one vs ≡ value.Int b ∷ [])
+works_on : (classes : Classes) → HasBuiltInClasses classes → (word : Span) (joins : Bool) (o : Option (Option KtType)) (t : KtType) → o ≡ Some (Some t) → (joins ≡ true → is_text (type_or_none o) ≡ true)
+    → finding_in (claimed classes (sum_operator joins).left word (name_claim word o)) ≡ [] → (v w : Value) → Lies v t → (joins ≡ false → Lies w int) → WorksOn joins v w
+works_on classes h word true o t e text none v w l number = (t, (subst (λ u. is_text (type_or_none u) ≡ true) e (text refl), l))
+works_on classes h word false o t e text none v w l number = (lies_above classes h v t int l (old_under classes word o t e none), number refl)
+
+-- the operand is one value, a number where no texts are joined; it is 1 where none is written
+pub record Operand (joins : Bool) (vs : List Value) : Type 0 where
+  pub one : Value
+  pub is : operand_or_one vs ≡ one ∷ []
+  pub number : joins ≡ false → Lies one int
+
+number_of : (joins : Bool) (found : Option KtType) (v : Value) → Gives (sum_operator joins).right found v → joins ≡ false → Lies v int
+number_of true found v g e = absurd (true≢false e)
+number_of false found v g e = g.1
+
+operand_is : (cx : TypeContext) (joins : Bool) (locals : LocalTypes) (operand : Trees) (vs : List Value) → nat_le (count operand) 1 ≡ true
+    → AllGive (Each (sum_operator joins).right) (all_judged cx (Each (sum_operator joins).right) locals operand).each_found vs → Operand joins vs
 unfolding all_judged
-operand_int cx locals Empty' [] h g = (pos 1, refl)
-operand_int cx locals Empty' (v ∷ vs) h g = absurd g
-operand_int cx locals (First' a Empty') [] h g = absurd g
-operand_int cx locals (First' a Empty') (v ∷ []) h g = let b = int_of v g.0.1 in (b.0, ap (λ z. z ∷ []) b.1)
-operand_int cx locals (First' a Empty') (v ∷ w ∷ vs) h g = absurd g.1
-operand_int cx locals (First' a (First' b rest)) vs h g = let i = leb-true (suc (suc (count rest))) 1 h in absurd (omega arith)
+operand_is cx joins locals Empty' [] h g = record { one = value.Int (pos 1); is = refl; number = λ e. refl }
+operand_is cx joins locals Empty' (v ∷ vs) h g = absurd g
+operand_is cx joins locals (First' a Empty') [] h g = absurd g
+operand_is cx joins locals (First' a Empty') (v ∷ []) h g = record { one = v; is = refl; number = number_of joins (judged cx (sum_operator joins).right locals a).found v g.0 }
+operand_is cx joins locals (First' a Empty') (v ∷ w ∷ vs) h g = absurd g.1
+operand_is cx joins locals (First' a (First' b rest)) vs h g = let i = leb-true (suc (suc (count rest))) 1 h in absurd (omega arith)
 
 compound_free : {p : Program} {cx : TypeContext} (g : Place p cx) (copy : ℕ) (n : Mark) (at : Span) (x : ℕ) (fixed : Bool) (o : Operation) (operand : Trees) (s : State)
     → Contains (all_trees_in g.body) (Compound' n at x fixed o operand) → Ready g (out_of copy (Compound' n at x fixed o operand) ∷ []) s → fixed ≡ true → is_some (s.here.locals x) ≡ false
@@ -97,18 +128,18 @@ compound_free g copy n at x true o operand s i r f =
     r.stands.agrees.held x ∙ g.fine.assigns t x (what.Literals []) (out_of copy t) (r.at ∷ r.stands.path) i refl refl (0, omega arith, refl) (r.leads.0, r.stands.is_path)
 compound_free g copy n at x false o operand s i r f = absurd (false≢true f)
 
-not_text : (v : Value) (t : KtType) → Lies v t → is_text (Some t) ≡ false
-not_text v t l = elim (cases_Bool (is_text (Some t))) [ inl e ↦ absurd (no_texts v t e l) | inr e ↦ e ]
-
--- what follows an operation that gives a value and changes no state, or throws
+-- what follows an operation
 after_yields : {p : Program} {cx : TypeContext} (g : Place p cx) (exits : Exits) (way : Way) (found : Option KtType) (d : KtType) (r : Run Value) (k : Value → Run Value) (s : State) → Yields r d
-    → ((v : Value) → Lies v d → Post g exits way found (k v s).ending) → Post g exits way found ((r >>= k) s).ending
+    → ((v : Value) (s' : State) → Unmoved s s' → Lies v d → Post g exits way found (k v s').ending) → Post g exits way found ((r >>= k) s).ending
 unfolding ◌>>=◌
-after_yields g exits way found d r k s y h =
-    elim (y.at s) [
-      | inl gave ↦ subst (λ e. Post g exits way found (ending_after e k)) (sym gave.1.0) (h gave.0 gave.1.1)
-      | inr thrown ↦ subst (λ e. Post g exits way found (ending_after e k)) (sym thrown.1) tt
-    ]
+after_yields g exits way found d r k s y next = by (r s).ending (y.at s)
+  where
+    by : (e : Ending Value) → EndsIn (λ v. Lies v d) s e → Post g exits way found (ending_after e k)
+    by (Gave v s') h = next v s' h.1 h.0
+    by (Left (Return v) s') h = absurd h
+    by (Left (Throw x) s') h = tt
+    by (Over l) h = tt
+    by Wrong h = h
 
 -- what follows a read that finds a value
 after_read : {p : Program} {cx : TypeContext} (g : Place p cx) (exits : Exits) (way : Way) (found : Option KtType) (x : ℕ) (k : Value → Run Value) (s : State) → is_some (s.here.locals x) ≡ true
@@ -149,21 +180,22 @@ law_compound p cx set go keeps n at x fixed o operand g context exits way locals
     let found = (closed cx way n parts c).found in
     after_read g exits way found x _ s (st.agrees.held x ∙ assigned_here) (λ v e.
     let lies_old : Lies v has.0 = st.agrees.typed x v has.0 e place in
-    let no_text = subst (λ u. is_text (type_or_none u) ≡ false) (sym has.1) (not_text v has.0 lies_old) in
-    let num = numbers o (is_text (type_or_none old)) says.op no_text says.is in
-    let is : operator ≡ Some (sum_operator false) = says.is ∙ ap (λ q. Some q) num.is in
-    let under = old_under cx.classes n.word old has.0 has.1 (subst (λ q. (old_value cx (left_way q) n.word old locals).findings ≡ []) is both.0) in
-    let left = int_of v (lies_above cx.classes set.built_in v has.0 int lies_old under) in
+    let does = operates o (is_text (type_or_none old)) says.op says.is in
+    let is : operator ≡ Some (sum_operator does.joins) = says.is ∙ ap (λ q. Some q) does.is in
+    let none = subst (λ q. (old_value cx (left_way q) n.word old locals).findings ≡ []) is both.0 in
     values_post go keeps operand g context exits way found (Each (right_way operator)) locals (out ∷ []) s _ (within_left within (leave_edges context t exits) w1)
     (record { known = a.known; none = both.1; covered = a.covered; inside = λ u i. a.inside u (inr i) })
     (ready context (entry_of context.copy (out ∷ []) operand) w0 st)
     (λ vs s' r gives.
-    let right = operand_int cx locals operand vs says.few (subst (λ q. AllGive (Each (right_way q)) (all_judged cx (Each (right_way q)) locals operand).each_found vs) is gives) in
-    let yields : Yields (operated o (v ∷ operand_or_one vs)) int = subst (λ z. Yields (operated o (z ∷ operand_or_one vs)) int) (sym left.1) (subst (λ zs. Yields (operated o (value.Int left.0 ∷ zs)) int) (sym right.1) (num.yields left.0 right.0)) in
-    after_yields g exits way found int (operated o (v ∷ operand_or_one vs)) _ s' yields (λ u l.
-    let fit : Fit g x u = record { type = has.0; is = place; lies = lies_above cx.classes set.built_in u int has.0 l (subst (λ q. is_subtype cx.classes q.gives has.0 ≡ true) num.is says.under) } in
-    checked_post g exits way found (p.written x) u (write fixed x u) s' (fit_written g set x u fit)
-    (write_post g exits way found fixed (s'.here.locals x) x u s' (compound_free g context.copy n at x fixed o operand s' inside r) (
-      leaves context t exits value.Unit (within_right within (leave_edges context t exits) w1) (put_stands g out x u s' (λ y b. refl) fit r),
+    let made = (sum_operator does.joins).gives in
+    let right = operand_is cx does.joins locals operand vs says.few (subst (λ q. AllGive (Each (right_way q)) (all_judged cx (Each (right_way q)) locals operand).each_found vs) is gives) in
+    let on = works_on cx.classes set.built_in n.word does.joins old has.0 has.1 does.of_text none v right.one lies_old right.number in
+    let yields : Yields (operated o (v ∷ operand_or_one vs)) made = subst (λ zs. Yields (operated o (v ∷ zs)) made) (sym right.is) (does.yields v right.one on) in
+    after_yields g exits way found made (operated o (v ∷ operand_or_one vs)) _ s' yields (λ u s'' same l.
+    let r' : Ready g (out ∷ []) s'' = ready_here same.here r in
+    let fit : Fit g x u = record { type = has.0; is = place; lies = lies_above cx.classes set.built_in u made has.0 l (subst (λ q. is_subtype cx.classes q.gives has.0 ≡ true) does.is says.under) } in
+    checked_post g exits way found (p.written x) u (write fixed x u) s'' (fit_written g set x u fit)
+    (write_post g exits way found fixed (s''.here.locals x) x u s'' (compound_free g context.copy n at x fixed o operand s'' inside r') (
+      leaves context t exits value.Unit (within_right within (leave_edges context t exits) w1) (put_stands g out x u s'' (λ y b. refl) fit r'),
       value_gives cx set way n parts c types h value.Unit (subst (λ d. Lies value.Unit d) says.unit refl),
     )))))

@@ -35,6 +35,7 @@ unfolding pure
 truth_post g on_true on_false exits way found found' (Gave value.Unit s) k h next = absurd (false≢true h.1.1)
 truth_post g on_true on_false exits way found found' (Gave (value.Bool b) s) k h next = next b s h.0
 truth_post g on_true on_false exits way found found' (Gave (value.Int i) s) k h next = absurd (false≢true h.1.1)
+truth_post g on_true on_false exits way found found' (Gave (value.Text text) s) k h next = absurd (false≢true h.1.1)
 truth_post g on_true on_false exits way found found' (Left (Return v) s) k h next = h
 truth_post g on_true on_false exits way found found' (Left (Throw x) s) k h next = tt
 truth_post g on_true on_false exits way found found' (Over l) k h next = tt

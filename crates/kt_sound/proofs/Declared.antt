@@ -1,5 +1,5 @@
 -- What the declarations of a file are by their kind, and what a name that stands for one says of it.
-use Rattle.std.proofs.Common.{◌≡◌, ◌⊎◌, ◌+◌, ℕ, suc, zero, not, Bool, true, false, List, [], ◌∷◌, ◌++◌, map, Option, Some, None, slice_get, option_and_then, find, ◌==◌, inl, inr, refl, sym, ap, subst, ◌∙◌, arith}
+use Rattle.std.proofs.Common.{◌≡◌, ◌⊎◌, ◌+◌, ℕ, suc, zero, not, Bool, true, false, List, [], ◌∷◌, ◌++◌, map, Option, Some, None, slice_get, option_and_then, find, ◌==◌, inl, inr, refl, sym, ap, subst, ◌∙◌, arith, true≢false}
 use Rattle.std.specs.Prelude.{⊤}
 use Rattle.std.specs.List.{flat_map}
 use Rattle.kt_tree.specs.declared.ast.declaration.File.{File}
@@ -14,7 +14,8 @@ use Rattle.kt_model.specs.declared.uses.DeclarationKind.TheVariants as kind
 use Rattle.kt_model.specs.declared.uses.Named.{Named}
 use Rattle.kt_model.specs.declared.uses.Named.TheVariants as named
 use Rattle.kt_model.specs.declared.uses.UseRow.{UseRow}
-use Rattle.kt_model.specs.BuiltIns.{BuiltIn, built_in_functions}
+use Rattle.kt_model.specs.BuiltIns.{built_in_functions, built_in_named}
+use Rattle.kt_model.specs.declared.built_ins.BuiltIn.{BuiltIn}
 use Rattle.kt_model.specs.NameEvents.{file_events}
 use Rattle.kt_model.specs.NameUses.{Resolved, named_by, named_if, named_in, named_at, declaration_type, function_place}
 use Rattle.kt_model.specs.Outlines.{function_result}
@@ -31,18 +32,18 @@ has_got [] i x e = absurd (none-some x e)
 has_got (y ∷ ys) zero x e = inl (some-some y x e)
 has_got (y ∷ ys) (suc i) x e = inr (has_got ys i x e)
 
-has_unmap : {A B : Type 0} (f : A → B) (xs : List A) (b : B) → Has (map f xs) b → (x : A) × (f x ≡ b)
+has_unmap : {A B : Type 0} (f : A → B) (xs : List A) (b : B) → Has (map f xs) b → (x : A) × (Has xs x × (f x ≡ b))
 unfolding Has
 has_unmap f [] b h = absurd h
-has_unmap f (x ∷ xs) b (inl e) = (x, e)
-has_unmap f (x ∷ xs) b (inr h) = has_unmap f xs b h
+has_unmap f (x ∷ xs) b (inl e) = (x, (inl refl, e))
+has_unmap f (x ∷ xs) b (inr h) = let r = has_unmap f xs b h in (r.0, (inr r.1.0, r.1.1))
 
 -- ---- the declarations of a file by their kind
 
--- That of the function at a place is of a function that stands there; what is built in returns.
+-- That of the function at a place is of a function that stands there; what is built in is one of the functions that are open.
 pub record IsAsDeclared (file : File) (d : Declaration) : Type 0 where
   pub of_function : (g : ℕ) → d.kind ≡ kind.Function g → (f : FunctionDecl) × ((slice_get file.functions g ≡ Some f) × (d ≡ function_declaration (top_names file) g f))
-  pub built_in : d.kind ≡ kind.BuiltIn → d.is_nothing ≡ false
+  pub built_in : d.kind ≡ kind.BuiltIn → (b : BuiltIn) × (Has built_in_functions b × (built_in_declaration b ≡ d))
 
 abbrev OfFunctions : Tops → ℕ → List FunctionDecl → Declaration → Type 0
 OfFunctions tops n fs d = (k : ℕ) × ((f : FunctionDecl) × ((slice_get fs k ≡ Some f) × (d ≡ function_declaration tops (n + k) f)))
@@ -57,9 +58,9 @@ function_among tops n (f ∷ fs) d (inr h) =
 same_place : (a b : ℕ) → kind.Function a ≡ kind.Function b → a ≡ b
 same_place a b e = cc
 
-built_in_declared : (file : File) (b : BuiltIn) (d : Declaration) → built_in_declaration b ≡ d → IsAsDeclared file d
-built_in_declared file b d e =
-    subst (λ z. IsAsDeclared file z) e (record { of_function = λ g i. absurd (apart g i); built_in = λ i. refl })
+built_in_declared : (file : File) (b : BuiltIn) (d : Declaration) → Has built_in_functions b → built_in_declaration b ≡ d → IsAsDeclared file d
+built_in_declared file b d here e =
+    subst (λ z. IsAsDeclared file z) e (record { of_function = λ g i. absurd (apart g i); built_in = λ i. (b, (here, refl)) })
   where
     apart : (g : ℕ) → kind.BuiltIn ≡ kind.Function g → ⊥
     apart g i = cc
@@ -92,7 +93,7 @@ is_as_declared : (file : File) (d : Declaration) → Has (declarations_of file) 
 unfolding declarations_of
 is_as_declared file d h =
     elim (has_either (map built_in_declaration built_in_functions) _ d h) [
-      | inl b ↦ (let r = has_unmap built_in_declaration built_in_functions d b in built_in_declared file r.0 d r.1)
+      | inl b ↦ (let r = has_unmap built_in_declaration built_in_functions d b in built_in_declared file r.0 d r.1.0 r.1.1)
       | inr other ↦ elim (has_either (function_declarations (top_names file) 0 file.functions) _ d other) [
         | inl f ↦ function_declared file d (function_among (top_names file) 0 file.functions d f)
         | inr v ↦ (let r = has_unflat (declaration_by (top_names file)) (file_events file) d v in variable_declared file d (variable_kind (top_names file) r.0 d r.1.1))
@@ -108,8 +109,8 @@ got_among tops n (g ∷ fs) rest zero f e =
     ap (λ h. Some (function_declaration tops n h)) (some-some g f e) ∙ ap (λ m. Some (function_declaration tops m f)) (omega arith)
 got_among tops n (g ∷ fs) rest (suc k) f e = got_among tops (n + 1) fs rest k f e ∙ ap (λ m. Some (function_declaration tops m f)) (omega arith)
 
-behind_both : (g : ℕ) → function_place g ≡ suc (suc g)
-behind_both g = omega arith
+behind_built_in : (g : ℕ) → function_place g ≡ suc (suc (suc (suc (suc g))))
+behind_built_in g = omega arith
 
 -- The type that is declared for a function is its result.
 pub function_type : (file : File) (uses : Resolved) → IsResolved file uses → (g : ℕ) (f : FunctionDecl) → slice_get file.functions g ≡ Some f
@@ -117,7 +118,7 @@ pub function_type : (file : File) (uses : Resolved) → IsResolved file uses →
 unfolding declarations_of
 function_type file uses r g f e =
     ap (λ ds. option_and_then (λ d. d.written) (slice_get ds (function_place g))) r.same_declared
-    ∙ ap (λ k. option_and_then (λ d. d.written) (slice_get (declarations_of file) k)) (behind_both g)
+    ∙ ap (λ k. option_and_then (λ d. d.written) (slice_get (declarations_of file) k)) (behind_built_in g)
     ∙ ap (λ o. option_and_then (λ d. d.written) o) (got_among (top_names file) 0 file.functions (flat_map (declaration_by (top_names file)) (file_events file)) g f e)
 
 -- ---- what a name stands for
@@ -125,13 +126,13 @@ function_type file uses r g f e =
 -- what the declaration of a named function is
 abbrev pub Fits : Declaration → Named → Type 0
 Fits d (named.Function g returns) = (d.kind ≡ kind.Function g) × (not d.is_nothing ≡ returns)
-Fits d (named.BuiltIn name returns) = (d.kind ≡ kind.BuiltIn) × (not d.is_nothing ≡ returns)
+Fits d (named.BuiltIn name returns) = (d.kind ≡ kind.BuiltIn) × ((d.name ≡ name) × (not d.is_nothing ≡ returns))
 Fits d _ = ⊤
 
 fits_parts : (place : ℕ) (k : DeclarationKind) (name : ℕ) (span : Span) (is_var is_nothing : Bool) (type : Option KtType)
     → Fits (record { kind = k; name = name; span = span; is_var = is_var; is_nothing = is_nothing; written = type }) (named_by place (record { kind = k; name = name; span = span; is_var = is_var; is_nothing = is_nothing; written = type }))
 fits_parts place (kind.Function f) name span is_var is_nothing type = (refl, refl)
-fits_parts place kind.BuiltIn name span is_var is_nothing type = (refl, refl)
+fits_parts place kind.BuiltIn name span is_var is_nothing type = (refl, (refl, refl))
 fits_parts place kind.Local name span is_var is_nothing type = tt
 fits_parts place kind.Parameter name span is_var is_nothing type = tt
 fits_parts place _ name span is_var is_nothing type = tt
@@ -165,14 +166,30 @@ named_function file uses r k g returns e = elim (declares uses k (named.Function
     apart : named.Function g returns ≡ named.Other → ⊥
     apart i = cc
 
--- The calls of what is built in return.
-pub named_built_in : (file : File) (uses : Resolved) → IsResolved file uses → (k name : ℕ) (returns : Bool) → named_at uses k ≡ named.BuiltIn name returns → returns ≡ true
-named_built_in file uses r k name returns e = elim (declares uses k (named.BuiltIn name returns) e) [
+pub was_true : (b : Bool) → not b ≡ false → b ≡ true
+was_true true e = refl
+was_true false e = absurd (true≢false e)
+
+-- By its name each built-in function is found again.
+found_again : (b : BuiltIn) → Has built_in_functions b → built_in_named b.name ≡ Some b
+unfolding Has
+found_again b (inl e) = subst (λ (c : BuiltIn). built_in_named c.name ≡ Some c) e refl
+found_again b (inr (inl e)) = subst (λ (c : BuiltIn). built_in_named c.name ≡ Some c) e refl
+found_again b (inr (inr (inl e))) = subst (λ (c : BuiltIn). built_in_named c.name ≡ Some c) e refl
+found_again b (inr (inr (inr (inl e)))) = subst (λ (c : BuiltIn). built_in_named c.name ≡ Some c) e refl
+found_again b (inr (inr (inr (inr (inl e))))) = subst (λ (c : BuiltIn). built_in_named c.name ≡ Some c) e refl
+found_again b (inr (inr (inr (inr (inr h))))) = absurd h
+
+-- A built-in function whose calls don't return has the result `Nothing`.
+pub named_built_in : (file : File) (uses : Resolved) → IsResolved file uses → (k name : ℕ) → named_at uses k ≡ named.BuiltIn name false → (b : BuiltIn) → built_in_named name ≡ Some b → is_nothing (Some b.result) ≡ true
+named_built_in file uses r k name e b is = elim (declares uses k (named.BuiltIn name false) e) [
   | inl other ↦ absurd (apart other)
   | inr found ↦ (
-      let none = (is_as_declared file found.0 (subst (λ ds. Has ds found.0) r.same_declared found.1.0)).built_in found.1.1.0 in
-      sym found.1.1.1 ∙ ap not none)
+      let d = (is_as_declared file found.0 (subst (λ ds. Has ds found.0) r.same_declared found.1.0)).built_in found.1.1.0 in
+      let same_name : d.0.name ≡ name = ap (λ (z : Declaration). z.name) d.1.1 ∙ found.1.1.1.0 in
+      let same : d.0 ≡ b = some-some d.0 b (sym (found_again d.0 d.1.0) ∙ ap built_in_named same_name ∙ is) in
+      subst (λ (c : BuiltIn). is_nothing (Some c.result) ≡ true) same (ap (λ (z : Declaration). z.is_nothing) d.1.1 ∙ was_true found.0.is_nothing found.1.1.1.1))
 ]
   where
-    apart : named.BuiltIn name returns ≡ named.Other → ⊥
+    apart : named.BuiltIn name false ≡ named.Other → ⊥
     apart i = cc

@@ -4,7 +4,9 @@ pub mod ValueTypes
 pub mod UpperTypes
 pub mod BodyStanding
 pub mod BodySteps
+pub mod Unreached
 pub mod BodyEnds
+pub mod OperationEnds
 pub mod Operations
 pub mod BodyLaws
 pub mod LocalLaws

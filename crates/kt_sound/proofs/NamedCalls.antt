@@ -18,7 +18,7 @@ use Rattle.kt_tree.specs.declared.ast.body.WhenBranch.{WhenBranch}
 use Rattle.kt_tree.specs.declared.ast.body.StringPart.{StringPart}
 use Rattle.kt_model.specs.declared.uses.Named.{Named}
 use Rattle.kt_model.specs.declared.uses.Named.TheVariants as named
-use Rattle.kt_model.specs.BodyTrees.{Operation, BuiltIn', Mark, Tree, Trees, Empty', First', Operation', Name', Paren', Not', And', Or', If', Declare', Local', Assign', Compound', Call', Return', Throw', Shut', Piece, Text', Inserted', Seen, SeenKind, listed, inserted_of, seen_trees, seen_optional, name_tree, call_tree, local_tree, compound_of, assigned_tree, assign_tree, whole, named_there, seen, seen_kind, stmt_tree, block_trees, branch_trees, piece, expr_tree}
+use Rattle.kt_model.specs.BodyTrees.{Operation, BuiltIn', Mark, Tree, Trees, Empty', First', Operation', Name', Paren', Not', And', Or', If', Declare', Local', Assign', Compound', Call', Return', Throw', Shut', Piece, Text', Inserted', Seen, SeenKind, listed, inserted_of, seen_trees, seen_optional, name_tree, call_tree, local_tree, compound_of, assigned_tree, assign_tree, whole, named_there, seen, seen_kind, stmt_tree, block_trees, branch_trees, piece, expr_tree, Braces}
 use Rattle.kt_model.specs.TreesWithin.{trees_in, all_trees_in}
 
 -- A call stands for what the name in some tree does.
@@ -76,10 +76,10 @@ module _ (uses : ℕ → Named) where
   unfolding trees_in
   or_calls n a b i j = All-cons (IsNamedCall uses) (Or' n a b) _ tt (All-append (IsNamedCall uses) (trees_in a) (trees_in b) i j)
 
-  pub if_calls : (n : Mark) (c : Tree) (a b : Trees) → Calls c → AllCalls a → AllCalls b → Calls (If' n c a b)
+  pub if_calls : (n : Mark) (braces : Braces) (c : Tree) (a b : Trees) → Calls c → AllCalls a → AllCalls b → Calls (If' n braces c a b)
   unfolding trees_in
-  if_calls n c a b h i j =
-      All-cons (IsNamedCall uses) (If' n c a b) _ tt (All-append (IsNamedCall uses) (trees_in c) _ h (All-append (IsNamedCall uses) (all_trees_in a) (all_trees_in b) i j))
+  if_calls n braces c a b h i j =
+      All-cons (IsNamedCall uses) (If' n braces c a b) _ tt (All-append (IsNamedCall uses) (trees_in c) _ h (All-append (IsNamedCall uses) (all_trees_in a) (all_trees_in b) i j))
 
   pub return_calls : (n : Mark) (value : Trees) → AllCalls value → Calls (Return' n value)
   unfolding trees_in

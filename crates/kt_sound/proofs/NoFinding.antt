@@ -13,8 +13,8 @@ use Rattle.kt_typing.specs.declared.claims.Way.TheVariants.{Unvalued, Plain, Inf
 use Rattle.kt_typing.specs.declared.claims.Claim.{Claim}
 use Rattle.kt_typing.specs.declared.claims.Claim.TheVariants.{Gives, Breaks, Lacks}
 use Rattle.kt_typing.specs.declared.claims.Operator.{Operator}
-use Rattle.kt_typing.specs.Typing.{Ways, Each, first_way, rest_ways, Signature, built_in_signature, TypeContext, LocalTypes, look_up, declared, initialised, Judgement, Judgements, alone, no_trees, in_front, is_subtype, stands_if, settled, claimed, outcome, type_in, finding_in, have_types, closed, not_open, count, demand_if, unit, operator_of, sum_operator, operator_demand, call_if, call_demand, operation_demand, equality_demand, is_text, first_of, apart, name_claim, value_way, known_type, declaration_claim, type_or_none, assign_claim, old_value, kept, compound_claim, left_way, right_way, inside, boolean, is_unit, unit_if, bare_return, return_claim, last_of, branch_way, branch_ways, joined_claim, branched, judged, all_judged}
-use Rattle.kt_sound.proofs.TypingSteps.{none_in, Known, known_declared, known_initialised}
+use Rattle.kt_typing.specs.Typing.{Ways, Each, first_way, rest_ways, Signature, built_in_signature, TypeContext, LocalTypes, look_up, declared, initialised, Judgement, Judgements, alone, no_trees, in_front, is_subtype, stands_if, settled, claimed, outcome, type_in, finding_in, have_types, closed, not_open, count, demand_if, unit, operator_of, sum_operator, operator_demand, call_if, call_demand, operation_demand, equality_demand, places, is_text, first_of, apart, name_claim, value_way, known_type, declaration_claim, type_or_none, assign_claim, old_value, kept, compound_claim, left_way, right_way, inside, boolean, is_unit, unit_if, bare_return, return_claim, last_of, branch_way, branch_ways, joined_claim, branched, judged, all_judged}
+use Rattle.kt_sound.proofs.TypingSteps.{none_in, Known, known_declared, known_initialised, ways_of_branch, branch_judged, branch_locals}
 
 pub some_finding : {A : Type 0} (x : A) → x ∷ [] ≡ [] → ⊥
 some_finding x e = cc
@@ -109,7 +109,7 @@ pub operation_decided : (n : Mark) (o : Operation) (text apart : Bool) (k : ℕ)
 operation_decided n (Int' i) text apart k = if_decided (k == 0) n _ _
 operation_decided n (Bool' b) text apart k = if_decided (k == 0) n _ _
 operation_decided n Null' text apart k = tt
-operation_decided n (Template' texts) text apart k = tt
+operation_decided n (Template' texts) text apart k = if_decided (k == places texts) n _ _
 operation_decided n (Sign' sign) text apart k = if_decided (k == 1) n _ _
 operation_decided n Sum' text apart k = sum_decided text n k
 operation_decided n (Arithmetic' o) text apart k = sum_decided false n k
@@ -210,6 +210,21 @@ types_both (None ∷ ts) us h i = absurd (false≢true h)
 pub types_branched : (c : Judgement) (a b : Judgements) → HasType c.found → have_types a.each_found ≡ true → have_types b.each_found ≡ true → have_types (branched c a b).each_found ≡ true
 types_branched c a b h i j = types_first c.found (last_of a.each_found ++ last_of b.each_found) h (types_both (last_of a.each_found) (last_of b.each_found) (types_last a.each_found i) (types_last b.each_found j))
 
+-- a branch whose value is taken, in which nothing is found: so is nothing in its trees
+pub branch_none : (cx : TypeContext) (way : Way) (at : Option Span) (locals : LocalTypes) (ts : Trees) → (branch_judged cx way at locals ts).findings ≡ []
+    → (all_judged cx (ways_of_branch cx way locals ts) locals ts).findings ≡ []
+unfolding all_judged
+branch_none cx way at locals Empty' e = refl
+branch_none cx way at locals (First' t rest) e = e
+
+-- and it has a type where they have types
+pub branch_types : (cx : TypeContext) (way : Way) (at : Option Span) (locals : LocalTypes) (ts : Trees) → (branch_judged cx way at locals ts).findings ≡ []
+    → have_types (all_judged cx (ways_of_branch cx way locals ts) locals ts).each_found ≡ true → have_types (branch_judged cx way at locals ts).each_found ≡ true
+branch_types cx way None locals Empty' e h = refl
+branch_types cx way (Some at) locals Empty' e h =
+    let s = stood cx.classes way at (Gives unit) tt e in types_first (type_in (claimed cx.classes way at (Gives unit))) [] (s.type, s.found) refl
+branch_types cx way at locals (First' t rest) e h = h
+
 -- two operands, the first of which is typed before the second
 pub types_two : (a b : Judgement) → HasType a.found → HasType b.found → have_types (in_front a (alone b)).each_found ≡ true
 types_two a b h i = types_first a.found (b.found ∷ []) h (types_first b.found [] i refl)
@@ -254,7 +269,7 @@ mutual
       let first = typed_tree cx (Checked boolean) locals a h both.0 in
       let second = typed_tree cx (Checked boolean) left.locals b first.known both.1 in
       record { type = has_type cx way n (in_front left (alone right)) (Gives boolean) (types_two left right first.type second.type) tt e; known = second.known }
-  typed_tree cx Unvalued locals (If' n c a b) h e =
+  typed_tree cx Unvalued locals (If' n braces c a b) h e =
       let condition = judged cx (Checked boolean) locals c in
       let first = all_judged cx (Each Unvalued) condition.locals a in
       let second = all_judged cx (Each Unvalued) first.locals b in
@@ -265,19 +280,26 @@ mutual
       let one = typed_trees cx (Each Unvalued) condition.locals a asked.known both.0 in
       let other = typed_trees cx (Each Unvalued) first.locals b one.known both.1 in
       record { type = has_type cx Unvalued n parts (Gives unit) (types_branched condition first second asked.type one.types other.types) tt e; known = other.known }
-  typed_tree cx way locals (If' n c a b) h e =
+  typed_tree cx way locals (If' n braces c a b) h e =
       let condition = judged cx (Checked boolean) locals c in
-      let first = all_judged cx (branch_ways (branch_way way) a) condition.locals a in
-      let second = all_judged cx (branch_ways (branch_way way) b) first.locals b in
+      let inner = branch_way way in
+      let first = branch_judged cx inner braces.first condition.locals a in
+      let second = branch_judged cx inner braces.second first.locals b in
       let parts = branched condition first second in
       let claim = joined_claim cx.classes way n (last_of first.each_found) (last_of second.each_found) in
       let none = none_in condition.findings (first.findings ++ second.findings) (parts_none cx Plain n parts claim e) in
       let both = none_in first.findings second.findings none.1 in
       let asked = typed_tree cx (Checked boolean) locals c h none.0 in
-      let one = typed_trees cx (branch_ways (branch_way way) a) condition.locals a asked.known both.0 in
-      let other = typed_trees cx (branch_ways (branch_way way) b) first.locals b one.known both.1 in
-      let decided = joined_decided cx.classes way n _ _ (types_last first.each_found one.types) (types_last second.each_found other.types) in
-      record { type = has_type cx Plain n parts claim (types_branched condition first second asked.type one.types other.types) decided e; known = other.known }
+      let one = typed_trees cx (ways_of_branch cx inner condition.locals a) condition.locals a asked.known (branch_none cx inner braces.first condition.locals a both.0) in
+      let between = subst (λ (ls : LocalTypes). Known ls) (sym (branch_locals cx inner braces.first condition.locals a)) one.known in
+      let other = typed_trees cx (ways_of_branch cx inner first.locals b) first.locals b between (branch_none cx inner braces.second first.locals b both.1) in
+      let types_one = branch_types cx inner braces.first condition.locals a both.0 one.types in
+      let types_other = branch_types cx inner braces.second first.locals b both.1 other.types in
+      let decided = joined_decided cx.classes way n _ _ (types_last first.each_found types_one) (types_last second.each_found types_other) in
+      record {
+        type = has_type cx Plain n parts claim (types_branched condition first second asked.type types_one types_other) decided e;
+        known = subst (λ (ls : LocalTypes). Known ls) (sym (branch_locals cx inner braces.second first.locals b)) other.known;
+      }
   typed_tree cx way locals (Declare' n x) h e =
       record { type = has_type cx way n (no_trees (declared locals x (cx.written x))) (Gives unit) refl tt e; known = known_declared locals x (cx.written x) h }
   typed_tree cx way locals (Local' n at x t) h e =

@@ -1,38 +1,26 @@
 -- Arguments and parameters: arguments that typing lets through fit, and so does the frame in which a body begins.
-use Rattle.std.proofs.Common.{◌≡◌, ℕ, suc, nat_eq, nat_le, is_some, Bool, true, false, ◌&&◌, ◌||◌, if◌then◌else◌, Option, Some, None, List, [], ◌∷◌, length, inl, inr, refl, sym, ap, subst, ◌∙◌, arith}
+use Rattle.std.proofs.Common.{◌≡◌, ℕ, nat_eq, nat_le, is_some, Bool, true, false, ◌&&◌, ◌||◌, if◌then◌else◌, Option, Some, None, List, [], ◌∷◌, length, inl, inr, refl, sym, ap, subst, ◌∙◌, arith}
 use Rattle.std.specs.Prelude.{IsSome}
 use Rattle.std.specs.List.{flat_map}
 use Rattle.std.proofs.lemmas.Bool.{eqb-true, leb-true, false≢true}
-use Rattle.kt_model.specs.BodyTrees.{Trees, Empty', First'}
 use Rattle.kt_model.specs.ControlFlow.{bring, entry_node, params_node}
 use Rattle.kt_model.specs.NodePaths.{assigned_after}
 use Rattle.kt_model.specs.declared.graph.Variable.TheVariants.{Local}
 use Rattle.kt_model.specs.declared.kinds.KtType.{KtType}
-use Rattle.kt_typing.specs.Typing.{Ways, first_way, rest_ways, TypeContext, LocalTypes, count, value_way, parameter_ways, judged, all_judged}
+use Rattle.kt_typing.specs.Typing.{LocalTypes, value_way, parameter_ways}
 use Rattle.kt_model.proofs.ListLemmas.{Has}
 use Rattle.kt_mean.specs.declared.states.Value.{Value}
 use Rattle.kt_mean.specs.Evaluation.{fits, arguments_fit, new_locals}
 use Rattle.kt_sound.proofs.TypingSteps.{none-some, some-some, AsWritten}
-use Rattle.kt_sound.proofs.ValueTypes.{Lies}
-use Rattle.kt_sound.proofs.Operations.{and_right}
+use Rattle.kt_sound.proofs.ValueTypes.{Lies, and_left, and_right}
 use Rattle.kt_sound.proofs.BodyStanding.{Agrees, Gives, AllGive}
 use Rattle.kt_sound.proofs.BodySteps.{nat_eq-sym}
-
-and_left : (a b : Bool) → (a && b) ≡ true → a ≡ true
-and_left true b e = refl
-and_left false b e = absurd (false≢true e)
 
 both : (a b : Bool) → a ≡ true → b ≡ true → (a && b) ≡ true
 both true b e f = f
 both false b e f = absurd (false≢true e)
 
 -- ---- arguments
-
--- each part has a type or none
-pub found_count : (cx : TypeContext) (ways : Ways) (locals : LocalTypes) (ts : Trees) → length (all_judged cx ways locals ts).each_found ≡ count ts
-unfolding all_judged
-found_count cx ways locals Empty' = refl
-found_count cx ways locals (First' t rest) = ap (λ k. suc k) (found_count cx (rest_ways ways) (judged cx (first_way ways) locals t).locals rest)
 
 -- neither fewer nor more
 pub same_count : (least k : ℕ) → (nat_le least k && nat_le k least) ≡ true → k ≡ least

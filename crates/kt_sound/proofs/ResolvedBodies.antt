@@ -6,7 +6,9 @@ use Rattle.std.proofs.lemmas.Bool.{false≢true}
 use Rattle.std.proofs.lemmas.List.Elements.{All-contains}
 use Rattle.kt_tree.specs.declared.ast.declaration.File.{File}
 use Rattle.kt_tree.specs.declared.ast.declaration.FunctionDecl.{FunctionDecl}
-use Rattle.kt_model.specs.BodyTrees.{BuiltIn', Tree, Operation', Call'}
+use Rattle.kt_model.specs.BodyTrees.{BuiltIn', Mark, Tree, Trees, Operation', Call'}
+use Rattle.kt_model.specs.BuiltIns.{built_in_named}
+use Rattle.kt_model.specs.declared.built_ins.BuiltIn.{BuiltIn}
 use Rattle.kt_model.specs.Bodies.{function_trees}
 use Rattle.kt_model.specs.NameUses.{Resolved, named_at, parameters_at, declaration_type}
 use Rattle.kt_model.specs.Outlines.{function_result}
@@ -25,7 +27,7 @@ use Rattle.kt_sound.proofs.NamedCalls.{IsNamedCall}
 use Rattle.kt_sound.proofs.NamedTrees.{body_calls}
 use Rattle.kt_model.proofs.ListLemmas.{contains_has}
 use Rattle.kt_sound.proofs.TypedParameters.{typed_parameter}
-use Rattle.kt_sound.proofs.Declared.{function_type, named_function, named_built_in}
+use Rattle.kt_sound.proofs.Declared.{was_true, function_type, named_function, named_built_in}
 
 -- the test for `Nothing`
 nothing_is : (o : Option KtType) → is_nothing o ≡ true → o ≡ Some nothing
@@ -37,17 +39,10 @@ nothing_is (Some t) e = ap (λ z. Some z) (by t.head t.nullable e)
     by head.Nothing true i = absurd (false≢true i)
     by _ nullable i = absurd (false≢true i)
 
-was_true : (b : Bool) → not b ≡ false → b ≡ true
-was_true true e = refl
-was_true false e = absurd (false≢true (sym e))
-
 module _ (file : File) (uses : Resolved) (r : IsResolved file uses) where
   -- of what is built in
-  returning : (t : Tree) → IsNamedCall (named_at uses) t → called_by t ≡ None → returns_at t ≡ true
-  returning (Call' n g returns arguments) h e = absurd (none-some g (sym e))
-  returning (Operation' n (BuiltIn' name returns) parts) h e = named_built_in file uses r h.0 name returns h.1
-  returning (Operation' n _ parts) h e = refl
-  returning _ h e = refl
+  stopping_built_in : (n : Mark) (name : ℕ) (arguments : Trees) (b : BuiltIn) → IsNamedCall (named_at uses) (Operation' n (BuiltIn' name false) arguments) → built_in_named name ≡ Some b → b.result ≡ nothing
+  stopping_built_in n name arguments b h is = some-some b.result nothing (nothing_is (Some b.result) (named_built_in file uses r h.0 name h.1 b is))
 
   result_at : (g : ℕ) (d : FunctionDecl) (callee : Function) → slice_get file.functions g ≡ Some d → function_at file uses g ≡ Some callee → callee.result ≡ function_result (top_names file) d
   result_at g d callee there e =
@@ -86,6 +81,6 @@ module _ (file : File) (uses : Resolved) (r : IsResolved file uses) where
       record {
         calls = λ t g i e. subst (λ o. IsSome o) (sym (same g)) (called t g (named t i) e);
         stops = λ t g callee i e there. stopping t g callee (named t i) e (sym (same g) ∙ there);
-        returns = λ t i. returning t (named t i);
+        stops_built_in = λ n name arguments b i. stopping_built_in n name arguments b (named (Operation' n (BuiltIn' name false) arguments) i);
         typed_parameters = λ x i. subst (λ o. IsSome o) (sym (written x)) (typed_parameter file uses r place x (contains_has (parameters_at uses place) x (subst (λ xs. Contains xs x) parameters i)));
       }

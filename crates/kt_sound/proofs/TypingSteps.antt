@@ -1,11 +1,12 @@
 -- What typing keeps from tree to tree: the types of locals, that each local has one, that it is the written one, and what has none yet.
-use Rattle.std.proofs.Common.{◌≡◌, ℕ, nat_eq, cond, Bool, true, false, Option, Some, None, List, [], ◌∷◌, ◌++◌, refl, sym, ap, subst, ◌∙◌}
+use Rattle.std.proofs.Common.{◌≡◌, ℕ, suc, nat_eq, cond, Bool, true, false, Option, Some, None, List, [], ◌∷◌, ◌++◌, length, refl, sym, ap, subst, ◌∙◌}
 use Rattle.std.proofs.lemmas.Bool.{eqb-true, eq-eqb}
+use Rattle.kt_tree.specs.declared.token.Span.{Span}
 use Rattle.kt_model.specs.BodyTrees.{Operation, Mark, Tree, Trees, Empty', First', Operation', Name', Paren', Not', And', Or', If', Declare', Local', Assign', Compound', Call', Return', Throw', Shut'}
 use Rattle.kt_model.specs.declared.kinds.KtType.{KtType}
 use Rattle.kt_typing.specs.declared.claims.Way.{Way}
 use Rattle.kt_typing.specs.declared.claims.Way.TheVariants.{Unvalued, Plain, Inferred, Checked}
-use Rattle.kt_typing.specs.Typing.{Ways, Each, first_way, rest_ways, TypeContext, LocalTypes, look_up, bound_unless, bound, declared, initialised, count, operator_of, call_demand, operation_demand, is_text, first_of, apart, value_way, known_type, type_or_none, right_way, inside, boolean, branch_way, branch_ways, judged, all_judged, parameter_types}
+use Rattle.kt_typing.specs.Typing.{Ways, Each, first_way, rest_ways, TypeContext, LocalTypes, Judgements, look_up, bound_unless, bound, declared, initialised, count, operator_of, call_demand, operation_demand, is_text, first_of, apart, value_way, known_type, type_or_none, right_way, inside, boolean, branch_way, branch_ways, end_way, never_ends, of_branch, judged, all_judged, parameter_types}
 
 -- ---- lists and options
 
@@ -25,6 +26,32 @@ some-some a b e = cc
 pub some_is : {A : Type 0} (o : Option A) → (o ≡ None → ⊥) → (a : A) × (o ≡ Some a)
 some_is None h = absurd (h refl)
 some_is (Some a) h = (a, refl)
+
+-- ---- parts
+
+-- each part has a type or none
+pub found_count : (cx : TypeContext) (ways : Ways) (locals : LocalTypes) (ts : Trees) → length (all_judged cx ways locals ts).each_found ≡ count ts
+unfolding all_judged
+found_count cx ways locals Empty' = refl
+found_count cx ways locals (First' t rest) = ap (λ k. suc k) (found_count cx (rest_ways ways) (judged cx (first_way ways) locals t).locals rest)
+
+-- ---- branches whose value is taken
+
+-- the ways of the trees of such a branch
+abbrev pub ways_of_branch : TypeContext → Way → LocalTypes → Trees → Ways
+ways_of_branch cx way locals ts = branch_ways (end_way (never_ends cx (all_judged cx (Each Unvalued) locals ts).each_found ts) way) ts
+
+-- what is said of it
+abbrev pub branch_judged : TypeContext → Way → Option Span → LocalTypes → Trees → Judgements
+branch_judged cx way at locals ts = of_branch cx way at ts locals (λ ways. all_judged cx ways locals ts)
+
+-- its locals are those behind its trees
+pub branch_locals : (cx : TypeContext) (way : Way) (at : Option Span) (locals : LocalTypes) (ts : Trees)
+    → (branch_judged cx way at locals ts).locals ≡ (all_judged cx (ways_of_branch cx way locals ts) locals ts).locals
+unfolding all_judged
+branch_locals cx way None locals Empty' = refl
+branch_locals cx way (Some at) locals Empty' = refl
+branch_locals cx way at locals (First' t rest) = refl
 
 -- ---- types of locals
 
@@ -178,15 +205,18 @@ mutual
       kept_tree cx (Checked boolean) (judged cx (Checked boolean) locals a).locals b x u (kept_tree cx (Checked boolean) locals a x u h)
   kept_tree cx way locals (Or' n a b) x u h =
       kept_tree cx (Checked boolean) (judged cx (Checked boolean) locals a).locals b x u (kept_tree cx (Checked boolean) locals a x u h)
-  kept_tree cx Unvalued locals (If' n c a b) x u h =
+  kept_tree cx Unvalued locals (If' n braces c a b) x u h =
       let condition = judged cx (Checked boolean) locals c in
       let first = all_judged cx (Each Unvalued) condition.locals a in
       kept_trees cx (Each Unvalued) first.locals b x u (kept_trees cx (Each Unvalued) condition.locals a x u (kept_tree cx (Checked boolean) locals c x u h))
-  kept_tree cx way locals (If' n c a b) x u h =
+  kept_tree cx way locals (If' n braces c a b) x u h =
       let condition = judged cx (Checked boolean) locals c in
-      let first = all_judged cx (branch_ways (branch_way way) a) condition.locals a in
-      kept_trees cx (branch_ways (branch_way way) b) first.locals b x u
-      (kept_trees cx (branch_ways (branch_way way) a) condition.locals a x u (kept_tree cx (Checked boolean) locals c x u h))
+      let inner = branch_way way in
+      let first = branch_judged cx inner braces.first condition.locals a in
+      let kept_first = kept_trees cx (ways_of_branch cx inner condition.locals a) condition.locals a x u (kept_tree cx (Checked boolean) locals c x u h) in
+      subst (λ (ls : LocalTypes). look_up ls x ≡ Some u) (sym (branch_locals cx inner braces.second first.locals b))
+      (kept_trees cx (ways_of_branch cx inner first.locals b) first.locals b x u
+      (subst (λ (ls : LocalTypes). look_up ls x ≡ Some u) (sym (branch_locals cx inner braces.first condition.locals a)) kept_first))
   kept_tree cx way locals (Declare' n y) x u h = kept_declared locals y (cx.written y) x u h
   kept_tree cx way locals (Local' n at y e) x u h =
       let value = judged cx (value_way (known_type (look_up locals y) (cx.written y))) locals e in
@@ -213,15 +243,18 @@ mutual
   written_tree cx way locals (Not' n e) h = written_tree cx (Checked boolean) locals e h
   written_tree cx way locals (And' n a b) h = written_tree cx (Checked boolean) (judged cx (Checked boolean) locals a).locals b (written_tree cx (Checked boolean) locals a h)
   written_tree cx way locals (Or' n a b) h = written_tree cx (Checked boolean) (judged cx (Checked boolean) locals a).locals b (written_tree cx (Checked boolean) locals a h)
-  written_tree cx Unvalued locals (If' n c a b) h =
+  written_tree cx Unvalued locals (If' n braces c a b) h =
       let condition = judged cx (Checked boolean) locals c in
       let first = all_judged cx (Each Unvalued) condition.locals a in
       written_trees cx (Each Unvalued) first.locals b (written_trees cx (Each Unvalued) condition.locals a (written_tree cx (Checked boolean) locals c h))
-  written_tree cx way locals (If' n c a b) h =
+  written_tree cx way locals (If' n braces c a b) h =
       let condition = judged cx (Checked boolean) locals c in
-      let first = all_judged cx (branch_ways (branch_way way) a) condition.locals a in
-      written_trees cx (branch_ways (branch_way way) b) first.locals b
-      (written_trees cx (branch_ways (branch_way way) a) condition.locals a (written_tree cx (Checked boolean) locals c h))
+      let inner = branch_way way in
+      let first = branch_judged cx inner braces.first condition.locals a in
+      let behind_first = written_trees cx (ways_of_branch cx inner condition.locals a) condition.locals a (written_tree cx (Checked boolean) locals c h) in
+      subst (AsWritten cx.written) (sym (branch_locals cx inner braces.second first.locals b))
+      (written_trees cx (ways_of_branch cx inner first.locals b) first.locals b
+      (subst (AsWritten cx.written) (sym (branch_locals cx inner braces.first condition.locals a)) behind_first))
   written_tree cx way locals (Declare' n y) h = written_declared cx.written locals y h
   written_tree cx way locals (Local' n at y e) h =
       let value = judged cx (value_way (known_type (look_up locals y) (cx.written y))) locals e in

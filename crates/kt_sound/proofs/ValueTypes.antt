@@ -50,9 +50,13 @@ either : (a b : Bool) → (a || b) ≡ true → (a ≡ true) ⊎ (b ≡ true)
 either true b e = inl refl
 either false b e = inr e
 
-left_of : (a b : Bool) → (a && b) ≡ true → a ≡ true
-left_of true b e = refl
-left_of false b e = e
+pub and_left : (a b : Bool) → (a && b) ≡ true → a ≡ true
+and_left true b e = refl
+and_left false b e = e
+
+pub and_right : (a b : Bool) → (a && b) ≡ true → b ≡ true
+and_right true b e = e
+and_right false b e = absurd (false≢true e)
 
 or_left : (a b : Bool) → a ≡ true → (a || b) ≡ true
 or_left true b e = refl
@@ -73,6 +77,7 @@ class_alone : (classes : Classes) → HasBuiltInClasses classes → (v : Value) 
 class_alone classes h value.Unit = h.unit_class
 class_alone classes h (value.Bool b) = h.boolean_class
 class_alone classes h (value.Int k) = h.int_class
+class_alone classes h (value.Text text) = h.string_class
 
 pub of_above : (classes : Classes) → HasBuiltInClasses classes → (v : Value) (a c : ℕ) → is_of (Some a) v ≡ true → is_under classes a c ≡ true → is_of (Some c) v ≡ true
 of_above classes h v a c l u =
@@ -89,19 +94,21 @@ heads_above classes h v (Some a) (Some c) l u = of_above classes h v a c l u
 -- a value of a type is one of each type above it
 pub lies_above : (classes : Classes) → HasBuiltInClasses classes → (v : Value) (d t : KtType) → Lies v d → is_subtype classes d t ≡ true → Lies v t
 unfolding is_subtype
-lies_above classes h v d t l u = heads_above classes h v (class_of d.head) (class_of t.head) l (left_of _ _ u)
+lies_above classes h v d t l u = heads_above classes h v (class_of d.head) (class_of t.head) l (and_left _ _ u)
 
 -- a number
 pub int_of : (v : Value) → Lies v int → (k : ℤ) × (v ≡ value.Int k)
 int_of value.Unit h = absurd (false≢true h)
 int_of (value.Bool b) h = absurd (false≢true h)
 int_of (value.Int k) h = (k, refl)
+int_of (value.Text text) h = absurd (false≢true h)
 
 -- a truth value
 pub bool_of : (v : Value) → Lies v boolean → (b : Bool) × (v ≡ value.Bool b)
 bool_of value.Unit h = absurd (false≢true h)
 bool_of (value.Bool b) h = (b, refl)
 bool_of (value.Int k) h = absurd (false≢true h)
+bool_of (value.Text text) h = absurd (false≢true h)
 
 -- the test for `Unit`
 pub unit_is : (h : Head) (nullable : Bool) → is_unit (record { head = h; nullable = nullable }) ≡ true → record { head = h; nullable = nullable } ≡ unit
@@ -114,17 +121,18 @@ unit_is head.Int b e = absurd (false≢true e)
 unit_is head.Str b e = absurd (false≢true e)
 unit_is (head.Class c) b e = absurd (false≢true e)
 
-no_text : (v : Value) (h : Head) → is_string h ≡ true → is_of (class_of h) v ≡ true → ⊥
-no_text v head.Any e l = false≢true e
-no_text v head.Nothing e l = false≢true e
-no_text v head.Unit e l = false≢true e
-no_text v head.Boolean e l = false≢true e
-no_text v head.Int e l = false≢true e
-no_text value.Unit head.Str e l = false≢true l
-no_text (value.Bool b) head.Str e l = false≢true l
-no_text (value.Int k) head.Str e l = false≢true l
-no_text v (head.Class c) e l = false≢true e
+text_by_head : (v : Value) (h : Head) → is_string h ≡ true → is_of (class_of h) v ≡ true → (text : List ℕ) × (v ≡ value.Text text)
+text_by_head v head.Any e l = absurd (false≢true e)
+text_by_head v head.Nothing e l = absurd (false≢true e)
+text_by_head v head.Unit e l = absurd (false≢true e)
+text_by_head v head.Boolean e l = absurd (false≢true e)
+text_by_head v head.Int e l = absurd (false≢true e)
+text_by_head value.Unit head.Str e l = absurd (false≢true l)
+text_by_head (value.Bool b) head.Str e l = absurd (false≢true l)
+text_by_head (value.Int k) head.Str e l = absurd (false≢true l)
+text_by_head (value.Text text) head.Str e l = (text, refl)
+text_by_head v (head.Class c) e l = absurd (false≢true e)
 
--- there are no texts yet
-pub no_texts : (v : Value) (t : KtType) → is_text (Some t) ≡ true → Lies v t → ⊥
-no_texts v t e l = no_text v t.head e l
+-- a text
+pub text_of : (v : Value) (t : KtType) → is_text (Some t) ≡ true → Lies v t → (text : List ℕ) × (v ≡ value.Text text)
+text_of v t e l = text_by_head v t.head e l

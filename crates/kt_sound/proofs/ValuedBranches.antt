@@ -1,29 +1,34 @@
 -- The branches of an `if` whose value is taken: the value of each is that of its last statement, and lies in the type of the whole.
-use Rattle.std.proofs.Common.{◌≡◌, ◌⊎◌, true, Option, Some, None, List, [], ◌∷◌, inl, inr, refl, sym, ap, subst, ◌∙◌}
-use Rattle.kt_model.specs.BodyTrees.{Mark, Tree, Trees, Empty', First'}
+use Rattle.std.proofs.Common.{◌≡◌, ◌⊎◌, ◌&&◌, Bool, true, false, not, Option, Some, None, List, [], ◌∷◌, inl, inr, refl, sym, ap, subst, ◌∙◌}
+use Rattle.std.proofs.lemmas.Bool.{false≢true}
+use Rattle.kt_tree.specs.declared.token.Span.{Span}
+use Rattle.kt_model.specs.BodyTrees.{Mark, Tree, Trees, Empty', First', number}
 use Rattle.kt_model.specs.Classes.{Classes}
 use Rattle.kt_model.specs.ControlFlow.{FlowContext, Exits, Node, Then, entry_of, edges, all_edges}
 use Rattle.kt_model.specs.declared.kinds.KtType.{KtType}
 use Rattle.kt_typing.specs.declared.claims.Way.{Way}
 use Rattle.kt_typing.specs.declared.claims.Way.TheVariants.{Unvalued, Plain, Inferred, Checked}
 use Rattle.kt_typing.specs.declared.claims.Claim.TheVariants as claim
-use Rattle.kt_typing.specs.Typing.{TypeContext, LocalTypes, Judgements, have_types, first_of, last_of, branch_way, branch_ways, joined_type, joined_claim, closed, judged, all_judged}
+use Rattle.kt_typing.specs.Typing.{Ways, Each, first_way, rest_ways, TypeContext, LocalTypes, Judgements, claimed, type_in, finding_in, have_types, first_of, last_of, branch_way, branch_ways, end_way, has_nothing, is_declaration_or_assignment, never_ends, joined_type, joined_claim, closed, unit, judged, all_judged}
 use Rattle.kt_mean.specs.declared.states.Value.{Value}
+use Rattle.kt_mean.specs.declared.states.Value.TheVariants as value
 use Rattle.kt_mean.specs.declared.states.Way.TheVariants.{Return, Throw}
 use Rattle.kt_mean.specs.Frames.{State, Ending, Gave, Left, Over, Wrong, ◌>>=◌, pure}
-use Rattle.kt_mean.specs.Evaluation.{Program, block_from}
+use Rattle.kt_mean.specs.Evaluation.{Program, block, block_from}
 use Rattle.kt_sound.specs.BodySoundness.{HasBuiltInClasses}
-use Rattle.kt_sound.proofs.TypingSteps.{none-some}
-use Rattle.kt_sound.proofs.NoFinding.{Stood, closed_found}
+use Rattle.kt_sound.proofs.TypingSteps.{none-some, ways_of_branch, branch_judged}
+use Rattle.kt_sound.proofs.NoFinding.{Stood, stood, closed_found}
+use Rattle.kt_sound.proofs.ValueTypes.{Lies}
 use Rattle.kt_sound.proofs.UpperTypes.{lies_upper}
-use Rattle.kt_sound.proofs.Operations.{gives-gives, breaks-gives}
+use Rattle.kt_sound.proofs.Operations.{gives_of, gives-gives, breaks-gives}
 use Rattle.kt_sound.proofs.BodyStanding.{Place, Ready, Within, AllAccepted, Gives, Post, Eval, Keeps}
 use Rattle.kt_sound.proofs.BodySteps.{within_left, within_right, enters, value_post, accepted_first, accepted_rest}
+use Rattle.kt_sound.proofs.Unreached.{never_last}
 
 -- ---- the value of a block
 
 -- the type that is found for the last statement
-abbrev pub last_found : TypeContext → Way → LocalTypes → Trees → Option KtType
+abbrev last_found : TypeContext → Way → LocalTypes → Trees → Option KtType
 last_found cx way locals ts = first_of (last_of (all_judged cx (branch_ways way ts) locals ts).each_found)
 
 -- a block with a last statement, whose value is taken
@@ -46,13 +51,64 @@ last_post {p} {cx} go keeps t (First' u rest) g context way locals next v s w a 
     last_post go keeps u rest g context way first.locals next x s' (within_right (edges context (Then after) t) (all_edges context next (First' u rest)) w) (accepted_rest g ways locals t (First' u rest) a) r')
 
 -- a block in which a type is found for a last statement
-pub valued_post : {p : Program} {cx : TypeContext} (go : Eval) → Keeps p cx go → (ts : Trees) (g : Place p cx) (context : FlowContext) (way : Way) (locals : LocalTypes) (next : List Node) (v : Value) (s : State) (d : KtType)
+valued_post : {p : Program} {cx : TypeContext} (go : Eval) → Keeps p cx go → (ts : Trees) (g : Place p cx) (context : FlowContext) (way : Way) (locals : LocalTypes) (next : List Node) (v : Value) (s : State) (d : KtType)
     → last_found cx way locals ts ≡ Some d → Within g.edges (all_edges context next ts) → AllAccepted g (branch_ways way ts) locals ts → Ready g (entry_of context.copy next ts) s
     → Post g (Then next) way (Some d) (block_from p go v ts s).ending
 unfolding all_judged
 valued_post go keeps Empty' g context way locals next v s d e w a r = absurd (none-some d e)
 valued_post {p} go keeps (First' t rest) g context way locals next v s d e w a r =
     subst (λ o. Post g (Then next) way o (block_from p go v (First' t rest) s).ending) e (last_post go keeps t rest g context way locals next v s w a r)
+
+-- ---- a branch that never comes to its end
+
+both_true : (a b c : Bool) → (a && (b && not c)) ≡ true → (a ≡ true) × (c ≡ false)
+both_true true true false e = (refl, refl)
+both_true true true true e = absurd (false≢true e)
+both_true true false c e = absurd (false≢true e)
+both_true false b c e = absurd (false≢true e)
+
+never_post : {p : Program} {cx : TypeContext} (go : Eval) → Keeps p cx go → (ts : Trees) (found : List (Option KtType)) → never_ends cx found ts ≡ true → (g : Place p cx) (context : FlowContext) (ways : Ways) (way : Way) (o : Option KtType)
+    (locals : LocalTypes) (next : List Node) (v : Value) (s : State) → Within g.edges (all_edges context next ts) → AllAccepted g ways locals ts → Ready g (entry_of context.copy next ts) s → Post g (Then next) way o (block_from p go v ts s).ending
+unfolding all_edges all_judged ◌>>=◌
+never_post go keeps Empty' found never g context ways way o locals next v s w a r = absurd (false≢true never)
+never_post {p} {cx} go keeps (First' t Empty') found never g context ways way o locals next v s w a r =
+    let says = both_true (is_declaration_or_assignment t) (has_nothing found) (cx.is_left (number t)) never in
+    never_last go g t (keeps t) says.0 says.1 context (first_way ways) way o locals next s (λ u. block_from p go u Empty') (within_left (edges context (Then next) t) [] w) (accepted_first g ways locals t Empty' a)
+    (enters context.copy t r)
+never_post {p} {cx} go keeps (First' t (First' u rest)) found never g context ways way o locals next v s w a r =
+    let after = entry_of context.copy next (First' u rest) in
+    let first = judged cx (first_way ways) locals t in
+    value_post g after (Then next) way (first_way ways) o first.found (go t s).ending (λ x. block_from p go x (First' u rest))
+    (keeps t g context (Then after) (first_way ways) locals s (within_left (edges context (Then after) t) (all_edges context next (First' u rest)) w) (accepted_first g ways locals t (First' u rest) a) (enters context.copy t r))
+    (λ x s' r' gives.
+    never_post go keeps (First' u rest) found never g context (rest_ways ways) way o first.locals next x s' (within_right (edges context (Then after) t) (all_edges context next (First' u rest)) w)
+    (accepted_rest g ways locals t (First' u rest) a) r')
+
+-- ---- a branch whose value is taken
+
+unit_gives : (classes : Classes) → HasBuiltInClasses classes → (way : Way) (at : Span) (d : KtType) → type_in (claimed classes way at (claim.Gives unit)) ≡ Some d → finding_in (claimed classes way at (claim.Gives unit)) ≡ []
+    → Gives way (Some d) value.Unit
+unit_gives classes h way at d e none =
+    let s = stood classes way at (claim.Gives unit) tt none in
+    gives_of classes h way (Some d) s.type value.Unit (sym e ∙ s.found) s.under (subst (λ t. Lies value.Unit t) (gives-gives unit s.type s.gives) refl)
+
+-- where a type is found for its end
+pub branch_post : {p : Program} {cx : TypeContext} → HasBuiltInClasses cx.classes → (go : Eval) → Keeps p cx go → (ts : Trees) (g : Place p cx) (context : FlowContext) (way : Way) (at : Option Span) (locals : LocalTypes) (next : List Node)
+    (s : State) (d : KtType) → first_of (last_of (branch_judged cx way at locals ts).each_found) ≡ Some d → (branch_judged cx way at locals ts).findings ≡ [] → Within g.edges (all_edges context next ts)
+    → AllAccepted g (ways_of_branch cx way locals ts) locals ts → Ready g (entry_of context.copy next ts) s → Post g (Then next) way (Some d) (block p go ts s).ending
+unfolding pure
+branch_post built_in go keeps Empty' g context way None locals next s d e none w a r = absurd (none-some d e)
+branch_post {p} {cx} built_in go keeps Empty' g context way (Some at) locals next s d e none w a r = (r, unit_gives cx.classes built_in way at d e none)
+branch_post {p} {cx} built_in go keeps (First' t rest) g context way at locals next s d e none w a r =
+    by (never_ends cx found (First' t rest)) refl e a
+  where
+    found : List (Option KtType)
+    found = (all_judged cx (Each Unvalued) locals (First' t rest)).each_found
+
+    by : (never : Bool) → never_ends cx found (First' t rest) ≡ never → last_found cx (end_way never way) locals (First' t rest) ≡ Some d → AllAccepted g (branch_ways (end_way never way) (First' t rest)) locals (First' t rest)
+        → Post g (Then next) way (Some d) (block p go (First' t rest) s).ending
+    by false i f b = valued_post go keeps (First' t rest) g context way locals next value.Unit s d f w b r
+    by true i f b = never_post go keeps (First' t rest) found i g context (branch_ways Unvalued (First' t rest)) way (Some d) locals next value.Unit s w b r
 
 -- ---- the type of the whole
 

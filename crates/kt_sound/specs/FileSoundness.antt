@@ -6,7 +6,7 @@ use Rattle.kt_model.specs.MemberRules.{IsMisdeclared}
 use Rattle.kt_model.specs.Outlines.{outlines_of}
 use Rattle.kt_model.specs.NameUses.{Resolved}
 use Rattle.kt_model.specs.Scopes.{IsResolved}
-use Rattle.kt_typing.specs.Typing.{IsTypingFinding}
+use Rattle.kt_typing.specs.Typing.{IsTypingFinding, SettlesLeft}
 use Rattle.kt_paths.specs.FlowRules.{IsPathViolated, SettlesEntered}
 use Rattle.kt_model.specs.Bodies.{owner_parameters, owner_trees}
 use Rattle.kt_model.specs.declared.finding.Finding.{Finding}
@@ -21,11 +21,12 @@ use Rattle.kt_mean.specs.WholeRun.{whole}
 abbrev pub file_classes : File → Classes
 file_classes file = written (outlines_of file)
 
--- No typing rule and no rule along paths is violated in the body of the function at this place, and which of its trees are entered is settled.
+-- No typing rule and no rule along paths is violated in the body of the function at this place, and which of its trees are entered and left is settled.
 pub record IsBodyAccepted (file : File) (uses : Resolved) (place : ℕ) : Type 0 where
   pub typed : (f : Finding) → IsTypingFinding file (file_classes file) uses (owner.Function place) f → ⊥
   pub flows : (f : Finding) → IsPathViolated file uses (owner.Function place) f → ⊥
   pub entered : SettlesEntered (owner_parameters uses (owner.Function place)) (owner_trees file uses (owner.Function place))
+  pub left : SettlesLeft (owner_parameters uses (owner.Function place)) (owner_trees file uses (owner.Function place))
 
 -- The names of a file are resolved, no rule on members is violated, by which each function has a body, it has a `main`, and each of its bodies is accepted.
 pub record AreBodiesAccepted (file : File) (uses : Resolved) (main : ℕ) : Type 0 where

@@ -2,7 +2,7 @@
 ghost use Rattle.kt_sound.specs.FileSoundness.{FilesNeverWrong, HaveProgram, OneProgram};
 
 /// A file has a program where its names are resolved, it violates no rule on members, it has a `main`, its bodies violate no typing rule and no rule along
-/// paths, and it is settled for each body which of its trees are entered.
+/// paths, and it is settled for each body which of its trees are entered and left.
 pub fn files_have_programs()
     ensures { HaveProgram }
 {}

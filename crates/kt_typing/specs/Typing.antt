@@ -3,9 +3,9 @@
 -- From the Kotlin specification, "Type system", "Expressions", "Statements" and "Local type inference": an operand or an argument must have a type
 -- under the one that is asked for; a local takes its written type, else that of its initialiser. The ways in which a tree is typed, the codes and the
 -- spans are this project's own. Each form has one definition: what it asks of its parts, and what it is where they have types. Forms that are not
--- open yet are refused as no part of the language, which no file that is parsed can have; so is an `if` with an empty branch where its value is taken. The code
+-- open yet are refused as no part of the language, which no file that is parsed can have; so is an `if` without a second branch where its value is taken. The code
 -- types each operand once, where the definition types those of a sum and of an equality anew for each question, and keeps the types of locals in a table.
-use Rattle.std.specs.Prelude.{ℕ, zero, suc, length, ◌==◌, ◌&&◌, ◌||◌, nat_eq, nat_le, Bool, true, false, not, List, [], ◌∷◌, ◌++◌, Option, Some, None, slice_get, option_map, Contains, if◌then◌else◌}
+use Rattle.std.specs.Prelude.{◌≡◌, ℕ, zero, suc, length, ◌==◌, ◌&&◌, ◌||◌, nat_eq, nat_le, Bool, true, false, not, List, [], ◌∷◌, ◌++◌, Option, Some, None, slice_get, option_map, Contains, IsTrue, ◌↔◌, if◌then◌else◌}
 use Rattle.std.specs.Map.{lookup}
 use Rattle.kt_tree.specs.declared.token.Span.{Span}
 use Rattle.kt_tree.specs.declared.ast.declaration.File.{File}
@@ -14,10 +14,15 @@ use Rattle.kt_tree.specs.declared.ast.declaration.FunctionBody.{FunctionBody}
 use Rattle.kt_tree.specs.declared.ast.declaration.FunctionBody.TheVariants as written
 use Rattle.kt_model.specs.Classes.{Classes}
 use Rattle.kt_model.specs.Subtypes.{class_of, is_under, upper_of}
-use Rattle.kt_model.specs.BuiltIns.{BuiltIn, built_in_named}
+use Rattle.kt_model.specs.declared.built_ins.BuiltIn.{BuiltIn}
+use Rattle.kt_model.specs.BuiltIns.{built_in_named}
 use Rattle.kt_model.specs.NameUses.{Resolved, parameters_at, declaration_type, function_place}
+use Rattle.kt_model.specs.Scopes.{is_nothing_head}
 use Rattle.kt_model.specs.Bodies.{owner_parameters, owner_trees}
-use Rattle.kt_model.specs.BodyTrees.{Tree, Trees, Operation', Name', Paren', Not', And', Or', If', Declare', Local', Assign', Compound', Call', Return', Throw', Shut', Empty', First', Mark, Operation, Int', Bool', Sign', Sum', Arithmetic', Compare', Equal', BuiltIn'}
+use Rattle.kt_model.specs.BodyPaths.{IsNodePath}
+use Rattle.kt_model.specs.ControlFlow.{Node, body_edges}
+use Rattle.kt_model.specs.declared.graph.Tag.TheVariants.{Out}
+use Rattle.kt_model.specs.BodyTrees.{Tree, Trees, Operation', Name', Paren', Not', And', Or', If', Declare', Local', Assign', Compound', Call', Return', Throw', Shut', Empty', First', Mark, number, Operation, Int', Bool', Template', Sign', Sum', Arithmetic', Compare', Equal', BuiltIn'}
 use Rattle.kt_model.specs.declared.kinds.KtType.{KtType}
 use Rattle.kt_model.specs.declared.kinds.Head.{Head}
 use Rattle.kt_model.specs.declared.kinds.Head.TheVariants.{Nothing, Unit as UnitHead, Boolean, Int, Str}
@@ -92,12 +97,14 @@ built_in_signature b = record { least = b.least; most = b.most; ways = Each (Che
 
 -- ---- what typing looks at
 
--- the written types of the locals and parameters, what the calls of each function of the file need, and the written result of the function whose body it is
+-- the written types of the locals and parameters, what the calls of each function of the file need, the written result of the function whose body it is, and
+-- whether a path leads to the `out` of the tree with that number
 pub record TypeContext : Type 0 where
   pub classes : Classes
   pub written : ℕ → Option KtType
   pub signature : ℕ → Option Signature
   pub result : Option KtType
+  pub is_left : ℕ → Bool
 
 -- The types of the locals that were declared, in the order of evaluation; None where an initialiser has no type.
 abbrev pub LocalTypes : Type 0
@@ -243,10 +250,17 @@ abbrev pub equality_demand : Bool → Demand → Mark → Demand
 equality_demand true demand n = record { ways = Each Plain; claim = Breaks Equality n.span }
 equality_demand false demand n = demand
 
+-- how many parts stand among the texts of a string
+abbrev pub places : List (Option (List ℕ)) → ℕ
+places [] = 0
+places (Some text ∷ rest) = places rest
+places (None ∷ rest) = suc (places rest)
+
 -- A tree that works on the values of so many parts: the first may be a text, the types of two may be apart.
 abbrev pub operation_demand : Mark → Operation → (text apart : Bool) → ℕ → Demand
 operation_demand n (Int' i) text apart k = demand_if (k == 0) n (Each Inferred) int
 operation_demand n (Bool' b) text apart k = demand_if (k == 0) n (Each Inferred) boolean
+operation_demand n (Template' texts) text apart k = demand_if (k == places texts) n (Each Plain) string
 operation_demand n (Sign' sign) text apart k = demand_if (k == 1) n (Each (Checked int)) int
 operation_demand n (Compare' o) text apart k = demand_if (k == 2) n (Each (Checked int)) boolean
 operation_demand n (Equal' o) text apart k = equality_demand apart (demand_if (k == 2) n (Each Plain) boolean) n
@@ -378,6 +392,43 @@ abbrev pub joined_type : Classes → Way → KtType → KtType → KtType
 joined_type classes (Checked t) a b = t
 joined_type classes way a b = upper_of classes a b
 
+-- A block whose last tree is a declaration or an assignment has the value `Unit`, as one without trees.
+abbrev pub is_declaration_or_assignment : Tree → Bool
+is_declaration_or_assignment (Declare' n x) = true
+is_declaration_or_assignment (Local' n at x e) = true
+is_declaration_or_assignment (Assign' n at x fixed e) = true
+is_declaration_or_assignment (Compound' n at x fixed o operand) = true
+is_declaration_or_assignment _ = false
+
+abbrev pub has_nothing : List (Option KtType) → Bool
+has_nothing [] = false
+has_nothing (None ∷ ts) = has_nothing ts
+has_nothing (Some t ∷ ts) = (is_nothing_head t.head && not t.nullable) || has_nothing ts
+
+-- whether no path leads to the end of a block that ends so, and a tree in it is of type `Nothing`, where these are the types of its trees
+abbrev pub never_ends : TypeContext → List (Option KtType) → Trees → Bool
+never_ends cx found Empty' = false
+never_ends cx found (First' t Empty') = is_declaration_or_assignment t && (has_nothing found && not (cx.is_left (number t)))
+never_ends cx found (First' t (First' u rest)) = never_ends cx found (First' u rest)
+
+-- The value of a block that never ends need not fit.
+abbrev pub end_way : Bool → Way → Way
+end_way true way = Unvalued
+end_way false way = way
+
+-- A block without trees; a finding names the block. A branch that isn't there has no value.
+abbrev pub empty_block : Classes → Way → LocalTypes → Option Span → Judgements
+empty_block classes way locals None = no_trees locals
+empty_block classes way locals (Some at) =
+    let o = claimed classes way at (Gives unit) in
+    record { each_found = type_in o ∷ []; rows = []; findings = finding_in o; locals = locals }
+
+-- a branch whose value is taken, by what is said of its trees in such ways
+abbrev pub of_branch : TypeContext → Way → (at : Option Span) → Trees → LocalTypes → (Ways → Judgements) → Judgements
+of_branch cx way at Empty' locals judge = empty_block cx.classes way locals at
+of_branch cx way at (First' t rest) locals judge =
+    judge (branch_ways (end_way (never_ends cx (judge (Each Unvalued)).each_found (First' t rest)) way) (First' t rest))
+
 -- by the types of the last statements of its branches
 abbrev pub joined_claim : Classes → Way → Mark → List (Option KtType) → List (Option KtType) → Claim
 joined_claim classes way n (Some a ∷ xs) (Some b ∷ ys) = Gives (joined_type classes way a b)
@@ -449,16 +500,16 @@ unfoldable mutual
   judged cx way locals (Or' n a b) =
       let left = judged cx (Checked boolean) locals a in
       closed cx way n (in_front left (alone (judged cx (Checked boolean) left.locals b))) (Gives boolean)
-  judged cx Unvalued locals (If' n c a b) =
+  judged cx Unvalued locals (If' n braces c a b) =
       let condition = judged cx (Checked boolean) locals c in
       let first = all_judged cx (Each Unvalued) condition.locals a in
       let second = all_judged cx (Each Unvalued) first.locals b in
       closed cx Unvalued n (branched condition first second) (Gives unit)
   -- The branches are checked, so the tree is not checked once more.
-  judged cx way locals (If' n c a b) =
+  judged cx way locals (If' n braces c a b) =
       let condition = judged cx (Checked boolean) locals c in
-      let first = all_judged cx (branch_ways (branch_way way) a) condition.locals a in
-      let second = all_judged cx (branch_ways (branch_way way) b) first.locals b in
+      let first = of_branch cx (branch_way way) braces.first a condition.locals (λ ways. all_judged cx ways condition.locals a) in
+      let second = of_branch cx (branch_way way) braces.second b first.locals (λ ways. all_judged cx ways first.locals b) in
       closed cx Plain n (branched condition first second) (joined_claim cx.classes way n (last_of first.each_found) (last_of second.each_found))
   judged cx way locals (Return' n value) =
       closed cx way n (all_judged cx (Each (value_way cx.result)) locals value) (return_claim cx.result n (count value))
@@ -494,9 +545,9 @@ abbrev pub owner_result : Resolved → Owner → Option KtType
 owner_result resolved (owner.Function f) = declaration_type resolved (function_place f)
 owner_result resolved _ = None
 
-abbrev pub context_of : Classes → Resolved → Owner → TypeContext
-context_of classes resolved o =
-    record { classes = classes; written = declaration_type resolved; signature = signature_of resolved; result = owner_result resolved o }
+abbrev pub context_of : Classes → Resolved → (is_left : ℕ → Bool) → Owner → TypeContext
+context_of classes resolved is_left o =
+    record { classes = classes; written = declaration_type resolved; signature = signature_of resolved; result = owner_result resolved o; is_left = is_left }
 
 -- parameters have their written types before the body
 abbrev pub parameter_types : TypeContext → LocalTypes → List ℕ → LocalTypes
@@ -520,12 +571,26 @@ abbrev pub owner_ways : File → Resolved → Owner → Ways
 owner_ways file resolved (owner.Function f) = function_ways (declaration_type resolved (function_place f)) (slice_get file.functions f)
 owner_ways file resolved _ = Each Unvalued
 
--- what is said of the trees of an owner's body
-unfoldable pub body_judged : File → Classes → Resolved → Owner → Judgements
-body_judged file classes resolved o =
-    let cx = context_of classes resolved o in
+-- what is said of the trees of an owner's body, by which of them a path leads out of
+unfoldable pub body_judged : File → Classes → Resolved → (is_left : ℕ → Bool) → Owner → Judgements
+body_judged file classes resolved is_left o =
+    let cx = context_of classes resolved is_left o in
     all_judged cx (owner_ways file resolved o) (parameter_types cx [] (owner_parameters resolved o)) (owner_trees file resolved o)
 
--- a typing rule is violated in an owner's body
-abbrev pub IsTypingFinding : File → Classes → Resolved → Owner → Finding → Type 0
-IsTypingFinding file classes resolved o f = Contains (body_judged file classes resolved o).findings f
+-- Some path of the body's graph ends at the `out` of the tree with this number.
+pub record IsLeft (parameters : List ℕ) (body : Trees) (tree : ℕ) : Type 0 where
+  pub node : Node
+  pub same_tree : node.tree ≡ tree
+  pub leaves : node.tag ≡ Out
+  pub path : List Node
+  pub is_path : IsNodePath (body_edges parameters body) (node ∷ path)
+
+-- For every tree number it is settled whether a path leads out of such a tree.
+pub record SettlesLeft (parameters : List ℕ) (body : Trees) : Type 0 where
+  pub is_left : ℕ → Bool
+  pub by_paths : (tree : ℕ) → IsTrue (is_left tree) ↔ IsLeft parameters body tree
+
+-- A typing rule is violated in an owner's body.
+pub record IsTypingFinding (file : File) (classes : Classes) (resolved : Resolved) (o : Owner) (f : Finding) : Type 0 where
+  pub left : SettlesLeft (owner_parameters resolved o) (owner_trees file resolved o)
+  pub violated : Contains (body_judged file classes resolved left.is_left o).findings f

@@ -33,7 +33,8 @@ module _ (source : List ℕ) (file : File) (uses : Resolved) (main : ℕ) (a : I
     bodies = λ place here. record {
       typed = λ f violated. a.accepted.none 9 f (in_file file a.accepted.has_file (in_body f uses place a.accepted.resolved here (inl violated)));
       flows = λ f violated. a.accepted.none 9 f (in_file file a.accepted.has_file (in_body f uses place a.accepted.resolved here (inr violated)));
-      entered = a.entered place here;
+      entered = (a.settled place here).entered;
+      left = (a.settled place here).left;
     };
   }
 
@@ -76,6 +77,8 @@ module _ (source : List ℕ) (file : File) (uses : Resolved) (main : ℕ) (a : I
         executes_run old new end.Done h = runs_whole old new ending.Done h
         executes_run old new end.Steps h = runs_whole old new ending.Steps h
         executes_run old new end.Calls h = runs_whole old new ending.Calls h
+        executes_run old new end.Store h = runs_whole old new ending.Store h
+        executes_run old new end.Text h = runs_whole old new ending.Text h
         executes_run old new (end.Uncaught e) h = runs_whole old new (ending.Uncaught e) h
         executes_run old new end.WriteFault h =
             let e = whole_ends program steps input (never_wrong input) in

@@ -1,6 +1,7 @@
 pub mod LanguageLaws
 pub mod Executions
 pub mod OneCourse
+pub mod LineSteps
 pub mod FetchSteps
 pub mod Endings
 pub mod Courses

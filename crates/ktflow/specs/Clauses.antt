@@ -9,7 +9,7 @@ use Rattle.ktflow.specs.Course.{Course, Ending, Usage, Refused, Ran, askings, li
 use Rattle.ktflow.specs.Language.{IsRefused}
 use Rattle.ktflow.specs.Program.{HasCourse, request_of, file_of, counted}
 use Rattle.ktflow.specs.Invoking.{Outside, HasShape}
-use Rattle.kt_mean.specs.declared.states.RunEnding.TheVariants.{Done, Steps, Calls, Uncaught}
+use Rattle.kt_mean.specs.declared.states.RunEnding.TheVariants.{Done, Steps, Calls, Store, Text, Uncaught}
 
 -- ---- the premises
 
@@ -64,6 +64,8 @@ is_done (Refused report) = false
 is_done (Ran Done) = true
 is_done (Ran Steps) = false
 is_done (Ran Calls) = false
+is_done (Ran Store) = false
+is_done (Ran Text) = false
 is_done (Ran (Uncaught e)) = false
 
 -- a limit of the written meaning was met
@@ -73,6 +75,8 @@ is_limit (Refused report) = false
 is_limit (Ran Done) = false
 is_limit (Ran Steps) = true
 is_limit (Ran Calls) = true
+is_limit (Ran Store) = true
+is_limit (Ran Text) = true
 is_limit (Ran (Uncaught e)) = false
 
 -- an exception left `main`
@@ -82,6 +86,8 @@ is_uncaught (Refused report) = false
 is_uncaught (Ran Done) = false
 is_uncaught (Ran Steps) = false
 is_uncaught (Ran Calls) = false
+is_uncaught (Ran Store) = false
+is_uncaught (Ran Text) = false
 is_uncaught (Ran (Uncaught e)) = true
 
 -- Where the bytes are told, the status is this number only where the call has a course that ends so; and where it has one, the status is

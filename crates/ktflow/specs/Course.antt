@@ -2,7 +2,7 @@
 use Rattle.std.specs.Prelude.{◌≡◌, ℕ, suc, List, [], ◌∷◌, ◌++◌, codes, count_by, nat_eq}
 use Rattle.kt_mean.specs.Events.{Event, Asked, Printed, text_of, RunCourse}
 use Rattle.kt_mean.specs.declared.states.RunEnding.{RunEnding}
-use Rattle.kt_mean.specs.declared.states.RunEnding.TheVariants.{Done, Steps, Calls, Uncaught}
+use Rattle.kt_mean.specs.declared.states.RunEnding.TheVariants.{Done, Steps, Calls, Store, Text, Uncaught}
 use Rattle.kt_mean.specs.Exceptions.{class_name, message}
 
 -- How a call ends: by words without a shape, by a refusal with its report, or as its run ends.
@@ -35,6 +35,8 @@ abbrev pub line_of_run : RunEnding → List ℕ
 line_of_run Done = []
 line_of_run Steps = codes "limit steps\n"
 line_of_run Calls = codes "limit calls\n"
+line_of_run Store = codes "limit store\n"
+line_of_run Text = codes "limit text\n"
 line_of_run (Uncaught e) = codes "uncaught " ++ (class_name e ++ (codes ": " ++ (message e ++ 10 ∷ [])))
 
 -- the text on `err`: the usage line, the report, or the line of the run
@@ -48,6 +50,8 @@ abbrev pub status_of_run : RunEnding → ℕ
 status_of_run Done = 0
 status_of_run Steps = 9
 status_of_run Calls = 9
+status_of_run Store = 9
+status_of_run Text = 9
 status_of_run (Uncaught e) = 7
 
 abbrev pub status_of : Ending → ℕ

@@ -69,6 +69,8 @@ abbrev pub stop_told : End → Stop
 stop_told end.Done = Ended (Ran ending.Done)
 stop_told end.Steps = Ended (Ran ending.Steps)
 stop_told end.Calls = Ended (Ran ending.Calls)
+stop_told end.Store = Ended (Ran ending.Store)
+stop_told end.Text = Ended (Ran ending.Text)
 stop_told (end.Uncaught e) = Ended (Ran (ending.Uncaught e))
 stop_told end.WriteFault = OutputFault
 stop_told end.NoMemory = NoMemory

@@ -3,6 +3,7 @@ pub mod Language
 pub mod Program
 pub mod Streams
 pub mod Fetching
+pub mod Lines
 pub mod Executing
 pub mod Invoking
 pub mod Clauses

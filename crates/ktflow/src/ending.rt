@@ -2,12 +2,15 @@
 ghost use Rattle.std.specs.Prelude.{◌≡◌};
 ghost use Rattle.ktflow.specs.Course.{line_of, status_of, line_of_run, status_of_run};
 ghost use Rattle.ktflow.specs.Executing.{ending_of};
+ghost use Rattle.kt_mean.specs.declared.states.RunEnding.TheVariants.{Uncaught};
 ghost use Rattle.ktflow.specs.Invoking.{line_of_stop, status_of_stop};
+ghost use Rattle.ktflow.specs.Lines.{text_of_line};
 
+use crate::line::Line;
 use kt_mean::{Exception, RunEnding};
 
 /// How a call ends.
-#[derive(Debug, Drop)]
+#[derive(Drop)]
 pub enum Ending {
     /// The words have no shape.
     Usage,
@@ -18,7 +21,7 @@ pub enum Ending {
 }
 
 /// What stops a call before its text on `err`: an ending, or a fault or want of memory before it.
-#[derive(Debug, Drop)]
+#[derive(Drop)]
 pub enum Stop {
     /// The written meaning ended the call.
     Ended(Ending),
@@ -32,37 +35,56 @@ pub enum Stop {
     NoMemory,
 }
 
-fn line_of_ending(ending: RunEnding) -> &'static [u8]
-    ensures { result.now ≡ line_of_run ending }
+fn line_of_exception(exception: &Exception) -> Line<'_>
+    ensures { text_of_line result ≡ line_of_run (Uncaught exception.now) }
 {
-    match ending {
-        RunEnding::Done => b"",
-        RunEnding::Steps => b"limit steps\n",
-        RunEnding::Calls => b"limit calls\n",
-        RunEnding::Uncaught(Exception::DivisionByZero) => {
-            b"uncaught ArithmeticException: / by zero\n"
+    match exception {
+        Exception::DivisionByZero => Line::plain(b"uncaught ArithmeticException: / by zero\n"),
+        Exception::FailedRequirement => {
+            Line::plain(b"uncaught IllegalArgumentException: Failed requirement.\n")
         }
+        Exception::FailedCheck => Line::plain(b"uncaught IllegalStateException: Check failed.\n"),
+        Exception::Error(text) => Line {
+            head: b"uncaught IllegalStateException: ",
+            message: text.bytes(),
+            end: b"\n",
+        },
     }
 }
 
-fn status_of_ending(ending: RunEnding) -> u8
-    ensures { result ≡ status_of_run ending }
+fn line_of_ending(ending: &RunEnding) -> Line<'_>
+    ensures { text_of_line result ≡ line_of_run ending.now }
+{
+    match ending {
+        RunEnding::Done => Line::plain(b""),
+        RunEnding::Steps => Line::plain(b"limit steps\n"),
+        RunEnding::Calls => Line::plain(b"limit calls\n"),
+        RunEnding::Store => Line::plain(b"limit store\n"),
+        RunEnding::Text => Line::plain(b"limit text\n"),
+        RunEnding::Uncaught(exception) => line_of_exception(exception),
+    }
+}
+
+fn status_of_ending(ending: &RunEnding) -> u8
+    ensures { result ≡ status_of_run ending.now }
 {
     match ending {
         RunEnding::Done => 0,
-        RunEnding::Steps | RunEnding::Calls => 9,
+        RunEnding::Steps | RunEnding::Calls | RunEnding::Store | RunEnding::Text => 9,
         RunEnding::Uncaught(_) => 7,
     }
 }
 
 impl Ending {
-    fn line(&self) -> &[u8]
-        ensures { result.now ≡ line_of (ending_of self.now) }
+    fn line(&self) -> Line<'_>
+        ensures { text_of_line result ≡ line_of (ending_of self.now) }
     {
         match self {
-            Ending::Usage => b"usage: ktflow check FILE or ktflow run [--steps N] FILE\n",
-            Ending::Refused(report) => report.as_slice(),
-            Ending::Ran(ending) => line_of_ending(*ending),
+            Ending::Usage => {
+                Line::plain(b"usage: ktflow check FILE or ktflow run [--steps N] FILE\n")
+            }
+            Ending::Refused(report) => Line::plain(report.as_slice()),
+            Ending::Ran(ending) => line_of_ending(ending),
         }
     }
 
@@ -72,22 +94,22 @@ impl Ending {
         match self {
             Ending::Usage => 2,
             Ending::Refused(_) => 1,
-            Ending::Ran(ending) => status_of_ending(*ending),
+            Ending::Ran(ending) => status_of_ending(ending),
         }
     }
 }
 
 impl Stop {
     // The text on `err`. After a failed put on `out` there is none, so nothing is put after it.
-    pub(crate) fn line(&self) -> &[u8]
-        ensures { result.now ≡ line_of_stop self.now }
+    pub(crate) fn line(&self) -> Line<'_>
+        ensures { text_of_line result ≡ line_of_stop self.now }
     {
         match self {
             Stop::Ended(ending) => ending.line(),
-            Stop::SourceFault => b"cannot read source\n",
-            Stop::InputFault => b"cannot read input\n",
-            Stop::OutputFault => b"",
-            Stop::NoMemory => b"no memory\n",
+            Stop::SourceFault => Line::plain(b"cannot read source\n"),
+            Stop::InputFault => Line::plain(b"cannot read input\n"),
+            Stop::OutputFault => Line::plain(b""),
+            Stop::NoMemory => Line::plain(b"no memory\n"),
         }
     }
 

@@ -47,6 +47,8 @@ fn stop_of(end: End) -> Stop
         End::Done => Stop::Ended(Ending::Ran(RunEnding::Done)),
         End::Steps => Stop::Ended(Ending::Ran(RunEnding::Steps)),
         End::Calls => Stop::Ended(Ending::Ran(RunEnding::Calls)),
+        End::Store => Stop::Ended(Ending::Ran(RunEnding::Store)),
+        End::Text => Stop::Ended(Ending::Ran(RunEnding::Text)),
         End::Uncaught(exception) => Stop::Ended(Ending::Ran(RunEnding::Uncaught(exception))),
         End::WriteFault => Stop::OutputFault,
         End::NoMemory => Stop::NoMemory,

@@ -8,6 +8,7 @@
 
 mod ending;
 mod execute;
+mod line;
 mod program;
 mod request;
 mod source;

@@ -8,15 +8,16 @@ ghost use Rattle.ktflow.specs.Clauses.{IsProgram, HasStatuses, HasOrder, HasFron
 
 use crate::ending::{Ending, Stop};
 use crate::execute::execute;
+use crate::line::put_line;
 use crate::request::read_request;
 use crate::source::{FetchFault, fetch_source};
-use kt_outside::{Input, Library, Output, put_all};
+use kt_outside::{Input, Library, Output};
 use std::alloc::Global;
 
 /// Does all that the program does with these words, and answers its status.
 ///
 /// `words` are those after the program's name: `run FILE` or `run --steps N FILE`. The text of the run is put on `out`; the usage line,
-/// the report of a refused source, or the line of a limit or of a fault on `err`.
+/// the report of a refused source, or the line of a limit, of an exception or of a fault on `err`.
 ///
 /// - 0: `main` came to its end.
 /// - 1: the written rules refuse the source.
@@ -25,6 +26,7 @@ use std::alloc::Global;
 /// - 4: a take failed.
 /// - 5: a put failed; nothing is put after it.
 /// - 6: there was no memory.
+/// - 7: an exception left `main`.
 /// - 9: a limit of the written meaning was met.
 ///
 /// The shapes, texts and statuses are this project's own.
@@ -104,11 +106,11 @@ fn perform<L: Library, I: Input, O: Output>(
     }
 }
 
-// Puts the text on `err`, and answers the status. It takes no memory, so there is none to want once something is on `err`.
+// Puts the text on `err`, and answers the status.
 fn report<E: Output>(stop: Stop, err: &mut E) -> u8
     ensures { Reports (E.state err.old) (E.state err.new) stop result }
 {
-    match put_all(err, stop.line()) {
+    match put_line(err, stop.line()) {
         Ok(()) => stop.status(),
         Err(_) => 5,
     }

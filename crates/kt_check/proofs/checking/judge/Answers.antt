@@ -11,5 +11,5 @@ returns-in_ok-main-in-Ok c = λ source has.
     record {
       accepted = accepted_file laws.one_file laws.one_finding laws.not_both source c.args.file c.in-Ok.uses has c.in-Ok.ensures.clear;
       is_main = c.in_ok-main-in-Ok.ensures;
-      entered = c.in-Ok.ensures.clear.entered;
+      settled = c.in-Ok.ensures.clear.settled;
     }

@@ -53,5 +53,5 @@ returns-clause-clear c =
     record {
       resolved = c.in_ok-uses.ensures.uses;
       none = clear_bodies file uses c.in_ok-uses.ensures.uses sizes c.in_ok-bodies.ensures.accepted;
-      entered = c.in_ok-bodies.ensures.entered;
+      settled = c.in_ok-bodies.ensures.settled;
     }

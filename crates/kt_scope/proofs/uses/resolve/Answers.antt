@@ -15,7 +15,7 @@ returns-clause-uses c =
       same_declared = ap (λ (u : Resolved). u.declared) c.new.ensures ∙ c.from_vec.ensures ∙ c.in_ok-resolver.ensures.declared;
       rising = subst (λ z. IsStrictlyIncreasing (map (λ (row : UseRow). row.tree) z)) (sym rows) c.in_ok-rows.ensures.rising;
       same_uses = subst (λ z. (row : UseRow) → Contains z row ↔ Contains (looking_back (use_by (top_names c.args.file.now)) [] (file_events c.args.file.now)) row) (sym rows) (subst (λ z. (row : UseRow) → Contains c.in_ok-rows.rows.items row ↔ Contains z row) c.in_ok-resolver.ensures.rows c.in_ok-rows.ensures.same);
-      same_parameters = ap (λ (u : Resolved). u.parameters) c.new.ensures ∙ c.in_ok-parameters.ensures ∙ ap (λ fs. parameters_from (2 + length fs) fs) c.as_slice-functions.ensures ∙ ap (λ n. parameters_from n c.args.file.now.functions) (first_is c.args.file.now);
+      same_parameters = ap (λ (u : Resolved). u.parameters) c.new.ensures ∙ c.in_ok-parameters.ensures ∙ ap (λ fs. parameters_from (5 + length fs) fs) c.as_slice-functions.ensures ∙ ap (λ n. parameters_from n c.args.file.now.functions) (first_is c.args.file.now);
     }
 
 pub returns-clause-accepted : goal.returns-clause-accepted

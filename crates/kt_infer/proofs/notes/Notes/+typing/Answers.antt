@@ -1,21 +1,23 @@
-use Rattle.std.proofs.Common.{◌≡◌, ◌∙◌, ◌+◌, ◌++◌, length, take, ap, sym, refl, map, [], ◌∷◌, Some, None, arith, drop, option_map, ◌&&◌, is_some, true, false}
-use Rattle.std.proofs.lemmas.List.{drop_all, nil_from_length, length-take-le, get_or-take}
+use Rattle.std.proofs.Common.{◌≡◌, ◌∙◌, ◌++◌, length, take, ap, sym, refl, map, [], ◌∷◌, Some, None, arith, option_map, ◌&&◌, is_some, true, false}
+use Rattle.std.proofs.lemmas.List.{nil_from_length, length-take-le, get_or-take}
 use Rattle.std.proofs.Math.Seq.{take-append_seam}
-use Rattle.std.proofs.lemmas.Option.{MatchOption-at_none, MatchOption-at_some}
+use Rattle.std.proofs.lemmas.Option.{MatchOption-at_none}
 use Rattle.kt_model.specs.NameUses.{named_at, declaration_type}
-use Rattle.kt_model.specs.BodyTrees.{whole, named_there, shut, expr_tree, piece, seen, seen_trees, inserted_of, texts_of, call_tree, Int', Bool', Null', Template', Sum', Arithmetic', stmt_tree, listed, assign_tree, local_tree, compound_of, assigned_tree, seen_optional, Trees, Return', branch_trees, otherwise}
+use Rattle.kt_model.specs.BodyTrees.{whole, named_there, shut, expr_tree, piece, seen, seen_trees, inserted_of, call_tree, Int', Bool', Null', Sum', Arithmetic', stmt_tree, listed, assign_tree, local_tree, compound_of, assigned_tree, seen_optional, Return', braces_there, branch_trees, if_braces, otherwise, seen_branch, SeenBlock}
 use Rattle.kt_typing.specs.Typing.{int, left_way, right_way, all_judged, Each, look_up, known_type, value_way, declared, initialised, declaration_claim, type_or_none, assign_claim, is_text, operator_of, count, compound_claim, boolean, bare_return, equality_demand, demand_if}
 use Rattle.kt_typing.specs.declared.claims.Claim.TheVariants.{Gives, Breaks}
-use Rattle.kt_typing.specs.declared.claims.Way.TheVariants.{Unvalued, Plain, Inferred, Checked}
+use Rattle.kt_typing.specs.declared.claims.Way.TheVariants.{Unvalued, Plain, Checked}
 use Rattle.kt_model.specs.declared.finding.Rule.TheVariants.{Syntax}
-use Rattle.kt_model.proofs.BodyFolds.{tree_of_kind, kind_int, kind_bool, kind_null, kind_name, kind_template, kind_paren, kind_call, kind_call_with, kind_sign, kind_sum, kind_arithmetic, kind_compare, kind_equal, kind_not, kind_and, kind_or, kind_if_any, kind_throw, kind_other, piece_text, piece_inserted, stmt_expr, stmt_local_any, stmt_assign_any, stmt_while, stmt_do_while, stmt_for, kind_return_any, kind_return_at_any, branch_braced, branch_single, block_list}
-use Rattle.kt_infer.specs.Demands.{as_ways, ways_from}
-use Rattle.kt_infer.specs.Noting.{typing_of, by_last}
-use Rattle.kt_infer.proofs.Passing.{judges_of, same_tree, every, same_such, same_judgements, same_complete_of, one, ends, ends_in, judges_in, opened_if, same_keeps, encloses, finish_trees, begin_branch, step_branch, finish_branch, one_branch, no_branch, nothing, piece_step, stmts_more, exprs_more, pieces_more, few, same_old, same_ways, as_valued}
-use Rattle.kt_infer.proofs.Ends.{opens_joined, last_more, last_alone, no_last, same_last, trees_behind}
-use Rattle.kt_infer.proofs.WaysFrom.{step_in_way}
+use Rattle.kt_model.proofs.BodyFolds.{tree_of_kind, kind_int, kind_bool, kind_null, kind_name, kind_template, kind_paren, kind_call, kind_call_with, kind_sign, kind_sum, kind_arithmetic, kind_compare, kind_equal, kind_not, kind_and, kind_or, kind_if_any, kind_throw, kind_other, piece_text, piece_inserted, stmt_expr, stmt_local_any, stmt_assign_any, stmt_while, stmt_do_while, stmt_for, kind_return_any, kind_return_at_any, branch_braced, branch_single, block_list, seen_braced, seen_single, seen_list}
+use Rattle.kt_infer.specs.Demands.{as_ways}
+use Rattle.kt_infer.specs.Left.{never_left}
+use Rattle.kt_infer.specs.Noting.{typing_of}
+use Rattle.kt_infer.proofs.Passing.{judges_of, same_tree, every, same_such, same_judgements, same_complete_of, one, ends, ends_in, judges_in, opened_if, same_keeps, encloses, begin_branch, begin_leading, one_branch, no_branch, same_branch, same_leading, assigned_as, nothing, few, same_old, same_ways, as_valued}
+use Rattle.kt_infer.proofs.Ends.{opens_joined, opens_going, opens_ended, last_more, last_alone, no_last, empty_last, same_last, trees_behind}
+use Rattle.kt_infer.proofs.BlockEnds.{never_by_number}
+use Rattle.kt_infer.proofs.Loops.{next_statement, no_statement_left, next_leading, no_leading_left, next_argument, no_argument_left, next_piece, no_piece_left}
 use Rattle.kt_infer.proofs.OtherNames.{no_call, no_local, no_word, no_target}
-use Rattle.kt_infer.proofs.Forms.{opens_shut, opens_leaf, opens_throw, opens_if, returns_bare, returns_value, opens_not, opens_and, opens_or, opens_compare, opens_equal, opens_sign, opens_parts, opens_binary, text_operator, sum_valued, opens_call, opens_built_in, opens_declare, opens_local, opens_assign, opens_compound}
+use Rattle.kt_infer.proofs.Forms.{opens_shut, opens_leaf, opens_throw, opens_if, returns_bare, returns_value, opens_not, opens_and, opens_or, opens_compare, opens_equal, opens_sign, opens_template, opens_binary, text_operator, sum_valued, opens_call, opens_built_in, opens_declare, opens_local, opens_assign, opens_compound}
 use Rattle.kt_tree.specs.declared.ast.body.ExprKind.TheVariants as e
 use Rattle.kt_model.specs.declared.uses.Named.TheVariants as named
 use Rattle.kt_infer.proofs.notes.Notes.+typing.Goals as goal
@@ -27,23 +29,20 @@ expr-returns t c =
 pub open-returns-in-Int : goal.open-returns-in-Int
 open-returns-in-Int t c =
     let uses = named_at c.args.body.now.uses.now in
-    let n = whole c.args.e.now.number c.args.e.now.span in
     every c.args.valued (tree_of_kind uses c.args.e.now _ _ c.in-Int.is (kind_int uses c.in-Int.field-0))
-    (opens_leaf (typing_of c.args.body.now) c.args.self.now n (Int' c.in-Int.field-0) (Gives int) (λ text far. refl) c.literal.ensures)
+    (opens_leaf (typing_of c.args.body.now) c.args.self.now (whole c.args.e.now.number c.args.e.now.span) (Int' c.in-Int.field-0) (Gives int) (λ text far. refl) c.literal.ensures)
 
 pub open-returns-in-Bool : goal.open-returns-in-Bool
 open-returns-in-Bool t c =
     let uses = named_at c.args.body.now.uses.now in
-    let n = whole c.args.e.now.number c.args.e.now.span in
     every c.args.valued (tree_of_kind uses c.args.e.now _ _ c.in-Bool.is (kind_bool uses c.in-Bool.field-0))
-    (opens_leaf (typing_of c.args.body.now) c.args.self.now n (Bool' c.in-Bool.field-0) (Gives boolean) (λ text far. refl) c.literal-in-Bool.ensures)
+    (opens_leaf (typing_of c.args.body.now) c.args.self.now (whole c.args.e.now.number c.args.e.now.span) (Bool' c.in-Bool.field-0) (Gives boolean) (λ text far. refl) c.literal-in-Bool.ensures)
 
 pub open-returns-in-Null : goal.open-returns-in-Null
 open-returns-in-Null t c =
     let uses = named_at c.args.body.now.uses.now in
-    let n = whole c.args.e.now.number c.args.e.now.span in
     every c.args.valued (tree_of_kind uses c.args.e.now _ _ c.in-Null.is (kind_null uses))
-    (opens_leaf (typing_of c.args.body.now) c.args.self.now n Null' (Breaks Syntax c.args.e.now.span) (λ text far. refl) c.shut.ensures)
+    (opens_leaf (typing_of c.args.body.now) c.args.self.now (whole c.args.e.now.number c.args.e.now.span) Null' (Breaks Syntax c.args.e.now.span) (λ text far. refl) c.shut.ensures)
 
 pub open-returns-in-Name : goal.open-returns-in-Name
 open-returns-in-Name t c =
@@ -52,9 +51,10 @@ open-returns-in-Name t c =
 pub open-returns-in_ok-complete-in-Template : goal.open-returns-in_ok-complete-in-Template
 open-returns-in_ok-complete-in-Template t c =
     let uses = named_at c.args.body.now.uses.now in
+    let cx = typing_of c.args.body.now in
     every c.args.valued (tree_of_kind uses c.args.e.now _ _ c.in-Template.is (kind_template uses c.in-Template.parts))
-    (opens_parts (typing_of c.args.body.now) (whole c.args.e.now.number c.args.e.now.span) (Template' (texts_of (map (piece uses) c.in-Template.parts))) (inserted_of (map (piece uses) c.in-Template.parts)) (λ text far. refl)
-    (same_judgements (ap (λ l. all_judged (typing_of c.args.body.now) (Each Inferred) c.args.self.now.locals.entries (inserted_of (map (piece uses) l))) (sym c.as_slice.ensures)) c.in_ok-complete-in-Template.ensures) c.opened_tree.ensures)
+    (opens_template cx (whole c.args.e.now.number c.args.e.now.span) (map (piece uses) c.in-Template.parts)
+    (same_judgements (ap (λ l. all_judged cx (Each Plain) c.args.self.now.locals.entries (inserted_of (map (piece uses) l))) (sym c.as_slice.ensures)) c.in_ok-complete-in-Template.ensures) c.opened_tree.ensures)
 
 pub open-returns-in_ok-enclosed-in-Paren : goal.open-returns-in_ok-enclosed-in-Paren
 open-returns-in_ok-enclosed-in-Paren t c =
@@ -114,23 +114,20 @@ choice-returns-in_default t c h k j =
 pub operation-returns-in_ok-found-in-Sign : goal.operation-returns-in_ok-found-in-Sign
 operation-returns-in_ok-found-in-Sign t c h =
     let uses = named_at c.args.body.now.uses.now in
-    let n = whole c.args.e.now.number c.args.e.now.span in
     every c.args.valued (tree_of_kind uses c.args.e.now _ _ c.in-Sign.is (kind_sign uses c.in-Sign.field-0 c.in-Sign.a))
-    (opens_sign (typing_of c.args.body.now) n c.in-Sign.field-0 (expr_tree uses c.in-Sign.a) (judges_of (typing_of c.args.body.now) uses (Checked int) c.get.ensures c.in_ok-found-in-Sign.ensures) c.unary.ensures)
+    (opens_sign (typing_of c.args.body.now) (whole c.args.e.now.number c.args.e.now.span) c.in-Sign.field-0 (expr_tree uses c.in-Sign.a) (judges_of (typing_of c.args.body.now) uses (Checked int) c.get.ensures c.in_ok-found-in-Sign.ensures) c.unary.ensures)
 
 pub logic-returns-in_ok-found-in-Not : goal.logic-returns-in_ok-found-in-Not
 logic-returns-in_ok-found-in-Not t c h k =
     let uses = named_at c.args.body.now.uses.now in
-    let n = whole c.args.e.now.number c.args.e.now.span in
     every c.args.valued (tree_of_kind uses c.args.e.now _ _ c.in-Not.is (kind_not uses c.in-Not.a))
-    (opens_not (typing_of c.args.body.now) n (expr_tree uses c.in-Not.a) (judges_of (typing_of c.args.body.now) uses (Checked boolean) c.get.ensures c.in_ok-found-in-Not.ensures) c.unary.ensures)
+    (opens_not (typing_of c.args.body.now) (whole c.args.e.now.number c.args.e.now.span) (expr_tree uses c.in-Not.a) (judges_of (typing_of c.args.body.now) uses (Checked boolean) c.get.ensures c.in_ok-found-in-Not.ensures) c.unary.ensures)
 
 pub operation-returns-in_ok-right-in-Compare : goal.operation-returns-in_ok-right-in-Compare
 operation-returns-in_ok-right-in-Compare t c h =
     let uses = named_at c.args.body.now.uses.now in
-    let n = whole c.args.e.now.number c.args.e.now.span in
     every c.args.valued (tree_of_kind uses c.args.e.now _ _ c.in-Compare.is (kind_compare uses c.in-Compare.field-0 c.in-Compare.a c.in-Compare.b))
-    (opens_compare (typing_of c.args.body.now) n c.in-Compare.field-0 (expr_tree uses c.in-Compare.a) (expr_tree uses c.in-Compare.b)
+    (opens_compare (typing_of c.args.body.now) (whole c.args.e.now.number c.args.e.now.span) c.in-Compare.field-0 (expr_tree uses c.in-Compare.a) (expr_tree uses c.in-Compare.b)
     (judges_of (typing_of c.args.body.now) uses (Checked int) c.get-in-Compare.ensures c.in_ok-left-in-Compare.ensures)
     (judges_of (typing_of c.args.body.now) uses (Checked int) c.get-in-Compare-2.ensures c.in_ok-right-in-Compare.ensures)
     c.pair.ensures)
@@ -148,9 +145,8 @@ operation-returns-in_ok-right-in-Equal t c h =
 pub logic-returns-in_ok-right-in-And : goal.logic-returns-in_ok-right-in-And
 logic-returns-in_ok-right-in-And t c h k =
     let uses = named_at c.args.body.now.uses.now in
-    let n = whole c.args.e.now.number c.args.e.now.span in
     every c.args.valued (tree_of_kind uses c.args.e.now _ _ c.in-And.is (kind_and uses c.in-And.a c.in-And.b))
-    (opens_and (typing_of c.args.body.now) n (expr_tree uses c.in-And.a) (expr_tree uses c.in-And.b)
+    (opens_and (typing_of c.args.body.now) (whole c.args.e.now.number c.args.e.now.span) (expr_tree uses c.in-And.a) (expr_tree uses c.in-And.b)
     (judges_of (typing_of c.args.body.now) uses (Checked boolean) c.get-in-And.ensures c.in_ok-left-in-And.ensures)
     (judges_of (typing_of c.args.body.now) uses (Checked boolean) c.get-in-And-2.ensures c.in_ok-right-in-And.ensures)
     c.pair.ensures)
@@ -158,9 +154,8 @@ logic-returns-in_ok-right-in-And t c h k =
 pub logic-returns-in_ok-right-in-Or : goal.logic-returns-in_ok-right-in-Or
 logic-returns-in_ok-right-in-Or t c h k =
     let uses = named_at c.args.body.now.uses.now in
-    let n = whole c.args.e.now.number c.args.e.now.span in
     every c.args.valued (tree_of_kind uses c.args.e.now _ _ c.in-Or.is (kind_or uses c.in-Or.a c.in-Or.b))
-    (opens_or (typing_of c.args.body.now) n (expr_tree uses c.in-Or.a) (expr_tree uses c.in-Or.b)
+    (opens_or (typing_of c.args.body.now) (whole c.args.e.now.number c.args.e.now.span) (expr_tree uses c.in-Or.a) (expr_tree uses c.in-Or.b)
     (judges_of (typing_of c.args.body.now) uses (Checked boolean) c.get-in-Or.ensures c.in_ok-left-in-Or.ensures)
     (judges_of (typing_of c.args.body.now) uses (Checked boolean) c.get-in-Or-2.ensures c.in_ok-right-in-Or.ensures)
     c.pair-in-Or.ensures)
@@ -195,9 +190,9 @@ pub joining-returns-in_ok-opened-in-If : goal.joining-returns-in_ok-opened-in-If
 joining-returns-in_ok-opened-in-If t c d x y is =
     let uses = named_at c.args.body.now.uses.now in
     same_such (tree_of_kind uses c.args.e.now _ _ c.in-If.is (kind_if_any uses c.in-If.condition c.in-If.then c.in-If.otherwise))
-    (opens_joined (typing_of c.args.body.now) c.args.e.now.number c.args.e.now.span (expr_tree uses c.in-If.condition) (branch_trees uses c.in-If.then) (otherwise (option_map (branch_trees uses) c.in-If.otherwise))
+    (opens_joined (typing_of c.args.body.now) c.args.e.now.number c.args.e.now.span (if_braces uses c.in-If.then c.in-If.otherwise) (expr_tree uses c.in-If.condition) (branch_trees uses c.in-If.then) (otherwise (option_map (branch_trees uses) c.in-If.otherwise))
     (judges_of (typing_of c.args.body.now) uses (Checked boolean) c.get.ensures c.in_ok-typed-in-If.ensures)
-    (same_last (ap (branch_trees uses) (sym c.get-in-If.ensures)) c.in_ok-first-in-If.ensures) c.exchange-before.ensures c.nothing_between-nothing.ensures.rows c.nothing_between-nothing.ensures.findings
+    (same_last (ap (λ b. (seen_branch uses b).braces) (sym c.get-in-If.ensures)) (ap (branch_trees uses) (sym c.get-in-If.ensures)) c.in_ok-first-in-If.ensures) c.exchange-before.ensures c.nothing_between-nothing.ensures.rows c.nothing_between-nothing.ensures.findings
     c.in_ok-second-in-If.ensures c.exchange-between.ensures c.is_some-complete.ensures c.in_ok-opened-in-If.ensures)
 
 pub joining-returns-in_default : goal.joining-returns-in_default
@@ -206,27 +201,30 @@ joining-returns-in_default t c d x y is = absurd (c.in_default.not-If d x y is)
 pub ending-returns-in_ok-last-in-Braced : goal.ending-returns-in_ok-last-in-Braced
 ending-returns-in_ok-last-in-Braced t c =
     let uses = named_at c.args.body.now.uses.now in
-    same_last (ap (branch_trees uses) c.in-Braced.is ∙ branch_braced uses _ ∙ block_list uses _ ∙ ap (λ l. listed (map (stmt_tree uses) l)) (sym c.as_slice.ensures)) c.in_ok-last-in-Braced.ensures
+    same_last (ap (λ b. (seen_branch uses b).braces) c.in-Braced.is ∙ ap (λ (s : SeenBlock). s.braces) (seen_braced uses _ ∙ seen_list uses _))
+    (ap (branch_trees uses) c.in-Braced.is ∙ branch_braced uses _ ∙ block_list uses _ ∙ ap (λ l. listed (map (stmt_tree uses) l)) (sym c.as_slice.ensures)) c.in_ok-last-in-Braced.ensures
 
 pub ending-returns-in_ok-last-in-Single : goal.ending-returns-in_ok-last-in-Single
 ending-returns-in_ok-last-in-Single t c =
     let uses = named_at c.args.body.now.uses.now in
-    same_last (ap (branch_trees uses) c.in-Single.is ∙ branch_single uses _) (last_alone (typing_of c.args.body.now) (stmt_tree uses c.in-Single.s) c.in_ok-last-in-Single.ensures)
+    same_last (ap (λ b. (seen_branch uses b).braces) c.in-Single.is ∙ ap (λ (s : SeenBlock). s.braces) (seen_single uses _))
+    (ap (branch_trees uses) c.in-Single.is ∙ branch_single uses _) (last_alone (typing_of c.args.body.now) (stmt_tree uses c.in-Single.s) c.in_ok-last-in-Single.ensures)
 
 pub other_ending-returns-in_ok-last-in-Some : goal.other_ending-returns-in_ok-last-in-Some
 other_ending-returns-in_ok-last-in-Some t c =
     let uses = named_at c.args.body.now.uses.now in
-    same_last (ap (λ w. otherwise (option_map (branch_trees uses) w)) c.in-Some.is ∙ ap (branch_trees uses) (sym c.get.ensures)) c.in_ok-last-in-Some.ensures
+    same_last (ap (λ w. braces_there (option_map (seen_branch uses) w)) c.in-Some.is ∙ ap (λ b. (seen_branch uses b).braces) (sym c.get.ensures))
+    (ap (λ w. otherwise (option_map (branch_trees uses) w)) c.in-Some.is ∙ ap (branch_trees uses) (sym c.get.ensures)) c.in_ok-last-in-Some.ensures
 
 pub other_ending-returns-in-None : goal.other_ending-returns-in-None
 other_ending-returns-in-None t c =
-    let uses = named_at c.args.body.now.uses.now in
-    same_last (ap (λ w. otherwise (option_map (branch_trees uses) w)) c.in-None.is) (no_last (typing_of c.args.body.now) c.args.self.now)
+    same_last (ap (λ w. braces_there (option_map (seen_branch (named_at c.args.body.now.uses.now)) w)) c.in-None.is)
+    (ap (λ w. otherwise (option_map (branch_trees (named_at c.args.body.now.uses.now)) w)) c.in-None.is) (no_last (typing_of c.args.body.now) c.args.self.now)
 
 pub last-returns-in-None : goal.last-returns-in-None
 last-returns-in-None t c =
-    let uses = named_at c.args.body.now.uses.now in
-    same_last (ap (λ l. listed (map (stmt_tree uses) l)) (nil_from_length c.args.statements.now (MatchOption-at_none _ _ c.in-None.is c.split_last.ensures.cases))) (no_last (typing_of c.args.body.now) c.args.self.now)
+    same_last refl (ap (λ l. listed (map (stmt_tree (named_at c.args.body.now.uses.now)) l)) (nil_from_length c.args.statements.now (MatchOption-at_none _ _ c.in-None.is c.split_last.ensures.cases)))
+    (empty_last (typing_of c.args.body.now) c.args.self.now c.args.braces)
 
 pub last-returns-in_ok-last-in-Some : goal.last-returns-in_ok-last-in-Some
 last-returns-in_ok-last-in-Some t c =
@@ -237,42 +235,52 @@ last-returns-in_ok-last-in-Some t c =
     let s = c.in-Some.s.now in
     let is : xs ≡ before ++ s ∷ [] = c.in-Some.ensures.cases.0 in
     let front : take (length before) xs ≡ before = ap (take (length before)) is ∙ take-append_seam before (s ∷ []) in
-    same_last (ap (λ l. listed (map (stmt_tree uses) l)) is ∙ ap listed (trees_behind uses before s))
+    same_last refl (ap (λ l. listed (map (stmt_tree uses) l)) is ∙ ap listed (trees_behind uses before s))
     (last_more cx (map (stmt_tree uses) before) (stmt_tree uses s)
-    (same_judgements (ap (λ l. by_last (all_judged cx (Each Unvalued) c.args.self.now.locals.entries (listed (map (stmt_tree uses) l)))) (sym front)) c.in_ok-leading-in-Some.ensures)
+    (same_leading cx (ap (λ l. listed (map (stmt_tree uses) l)) (sym front)) c.in_ok-nothing-in-Some.ensures)
     c.in_ok-last-in-Some.ensures)
 
+pub block_end-returns-in_ok-found : goal.block_end-returns-in_ok-found
+block_end-returns-in_ok-found t c =
+    let body = c.args.body.now in
+    let tree = stmt_tree (named_at body.uses.now) c.args.s.now in
+    opens_ended (typing_of body)
+    (sym (never_by_number body c.args.nothing tree) ∙ ap (never_left body.left.now c.args.nothing) (sym c.declared_number-number.ensures) ∙ sym c.never_left.ensures ∙ c.if-never_left.true)
+    c.in_ok-found.ensures
+
+pub block_end-returns-in_ok-last : goal.block_end-returns-in_ok-last
+block_end-returns-in_ok-last t c =
+    let body = c.args.body.now in
+    let tree = stmt_tree (named_at body.uses.now) c.args.s.now in
+    opens_going (typing_of body)
+    (sym (never_by_number body c.args.nothing tree) ∙ ap (never_left body.left.now c.args.nothing) (sym c.declared_number-number.ensures) ∙ sym c.never_left.ensures ∙ c.if-never_left.false)
+    c.in_ok-last.ensures
+
 pub leading-loop-place-init : goal.leading-loop-place-init
-leading-loop-place-init t c = begin_branch c.args.self.now _
+leading-loop-place-init t c = begin_leading c.args.self.now _
 
 pub leading-loop-place-preserved : goal.leading-loop-place-preserved
 leading-loop-place-preserved t c =
-    let uses = named_at c.args.body.now.uses.now in
-    let cx = typing_of c.args.body.now in
     let xs = take c.args.count c.args.statements.now in
     let i = c.loop-place.place in
     let x = c.index-statements-place.result in
     let long : length xs ≡ c.args.count = length-take-le c.args.count c.args.statements.now c.requires in
-    step_branch cx (stmt_tree uses x) (listed (map (stmt_tree uses) (drop (i + 1) xs)))
-    (ap (all_judged cx (Each Unvalued) c.loop-place.self.locals.entries)
-    (stmts_more uses xs (i + 1) i x (omega arith) (omega arith) (c.index-statements-place.is ∙ sym (get_or-take c.args.count c.args.statements.now i x (omega arith)))))
-    c.loop-place.invariant c.in_ok-found.ensures c.is_some-complete.ensures
+    next_leading (typing_of c.args.body.now) (named_at c.args.body.now.uses.now) xs i x (omega arith)
+    (c.index-statements-place.is ∙ sym (get_or-take c.args.count c.args.statements.now i x (omega arith))) c.loop-place.invariant c.in_ok-found.ensures c.nothing_so_far-nothing.ensures
 
 pub leading-returns : goal.leading-returns
 leading-returns t c =
-    let uses = named_at c.args.body.now.uses.now in
-    let cx = typing_of c.args.body.now in
     let xs = take c.args.count c.args.statements.now in
     let long : length xs ≡ c.args.count = length-take-le c.args.count c.args.statements.now c.requires in
-    finish_branch cx (ap (λ l. all_judged cx (Each Unvalued) c.loop-place.self.locals.entries (listed (map (stmt_tree uses) l))) (drop_all c.loop-place.place xs (omega arith))) c.loop-place.invariant
+    no_leading_left (typing_of c.args.body.now) (named_at c.args.body.now.uses.now) xs c.loop-place.place (omega arith) c.loop-place.invariant
 
 pub choice-returns-in_ok-second-in-If : goal.choice-returns-in_ok-second-in-If
 choice-returns-in_ok-second-in-If t c h k j =
     let uses = named_at c.args.body.now.uses.now in
     same_such (tree_of_kind uses c.args.e.now _ _ c.in-If.is (kind_if_any uses c.in-If.condition c.in-If.then c.in-If.otherwise))
-    (opens_if (typing_of c.args.body.now) (whole c.args.e.now.number c.args.e.now.span) (expr_tree uses c.in-If.condition) (branch_trees uses c.in-If.then) (otherwise (option_map (branch_trees uses) c.in-If.otherwise)) c.if-valued.false
+    (opens_if (typing_of c.args.body.now) (whole c.args.e.now.number c.args.e.now.span) (if_braces uses c.in-If.then c.in-If.otherwise) (expr_tree uses c.in-If.condition) (branch_trees uses c.in-If.then) (otherwise (option_map (branch_trees uses) c.in-If.otherwise)) c.if-valued.false
     (judges_of (typing_of c.args.body.now) uses (Checked boolean) c.get.ensures c.in_ok-found-in-If.ensures)
-    (same_judgements (ap (λ b. by_last (all_judged (typing_of c.args.body.now) (Each Unvalued) c.expr.new.self.locals.entries (branch_trees uses b))) (sym c.get-in-If.ensures)) c.in_ok-first-in-If.ensures)
+    (same_branch (typing_of c.args.body.now) (ap (branch_trees uses) (sym c.get-in-If.ensures)) c.in_ok-first-in-If.ensures)
     c.in_ok-second-in-If.ensures
     (opened_if (c.both-complete.ensures ∙ ap (λ k. k && c.both.result) c.is_some.ensures ∙ ap (λ k. is_some c.in_ok-found-in-If.found && k) c.both.ensures) c.opened_tree.ensures))
 
@@ -312,57 +320,37 @@ call-returns-in_default t c =
 
 pub arguments-loop-place-preserved : goal.arguments-loop-place-preserved
 arguments-loop-place-preserved t c =
-    let uses = named_at c.args.body.now.uses.now in
-    let cx = typing_of c.args.body.now in
-    let xs = c.args.arguments.now in
-    let ways = as_ways c.args.body.now.uses.now c.args.ways in
-    let i = c.loop-place.place in
-    step_in_way cx (expr_tree uses c.index-arguments-place.result) (seen_trees (map (seen uses) (drop (i + 1) xs))) ways (i + 1) i (omega arith)
-    (ap (all_judged cx (ways_from i ways) c.loop-place.self.locals.entries) (exprs_more uses xs (i + 1) i c.index-arguments-place.result (omega arith) (omega arith) c.index-arguments-place.is))
+    next_argument (typing_of c.args.body.now) (named_at c.args.body.now.uses.now) c.args.arguments.now (as_ways c.args.body.now.uses.now c.args.ways) c.loop-place.place c.index-arguments-place.result (omega arith) c.index-arguments-place.is
     c.loop-place.invariant c.at-way.ensures c.in_ok-found.ensures c.still-complete.ensures
 
 pub arguments-returns : goal.arguments-returns
 arguments-returns t c =
-    let uses = named_at c.args.body.now.uses.now in
-    let cx = typing_of c.args.body.now in
-    let ways = ways_from c.loop-place.place (as_ways c.args.body.now.uses.now c.args.ways) in
-    finish_trees cx ways
-    (ap (λ l. all_judged cx ways c.loop-place.self.locals.entries (seen_trees (map (seen uses) l))) (drop_all c.loop-place.place c.args.arguments.now (omega arith))) c.loop-place.invariant
+    no_argument_left (typing_of c.args.body.now) (named_at c.args.body.now.uses.now) c.args.arguments.now (as_ways c.args.body.now.uses.now c.args.ways) c.loop-place.place (omega arith) c.loop-place.invariant
 
 pub pieces-loop-part-preserved : goal.pieces-loop-part-preserved
 pieces-loop-part-preserved t c =
-    let uses = named_at c.args.body.now.uses.now in
-    let cx = typing_of c.args.body.now in
-    let xs = c.args.parts.now in
-    let i = c.loop-part.part-index in
-    piece_step cx (piece uses c.part-item.result) (map (piece uses) (drop (i + 1) xs)) Inferred
-    (ap (all_judged cx (Each Inferred) c.loop-part.self.locals.entries) (pieces_more uses xs (i + 1) i c.part-item.result (omega arith) (omega arith) c.part-item.is))
-    c.loop-part.invariant c.in_ok-typed.ensures c.both-complete.ensures
+    next_piece (typing_of c.args.body.now) (named_at c.args.body.now.uses.now) c.args.parts.now Plain c.loop-part.part-index c.part-item.result (omega arith) c.part-item.is c.loop-part.invariant c.in_ok-typed.ensures c.both-complete.ensures
 
 pub pieces-returns : goal.pieces-returns
 pieces-returns t c =
-    let uses = named_at c.args.body.now.uses.now in
-    let cx = typing_of c.args.body.now in
-    finish_trees cx (Each Inferred)
-    (ap (λ l. all_judged cx (Each Inferred) c.loop-part.self.locals.entries (inserted_of (map (piece uses) l))) (drop_all c.loop-part.part-index c.args.parts.now (omega arith))) c.loop-part.invariant
+    no_piece_left (typing_of c.args.body.now) (named_at c.args.body.now.uses.now) c.args.parts.now Plain c.loop-part.part-index (omega arith) c.loop-part.invariant
 
 pub inserted-returns-in-Text : goal.inserted-returns-in-Text
 inserted-returns-in-Text t c =
     let uses = named_at c.args.body.now.uses.now in
     let cx = typing_of c.args.body.now in
-    same_judgements (ap (λ p. all_judged cx (Each Inferred) c.args.self.now.locals.entries (inserted_of (p ∷ []))) (ap (piece uses) c.in-Text.is ∙ piece_text uses _)) (nothing cx c.args.self.now (Each Inferred))
+    same_judgements (ap (λ p. all_judged cx (Each Plain) c.args.self.now.locals.entries (inserted_of (p ∷ []))) (ap (piece uses) c.in-Text.is ∙ piece_text uses _)) (nothing cx c.args.self.now (Each Plain))
 
 pub inserted-returns-in_ok-found-in-Inserted : goal.inserted-returns-in_ok-found-in-Inserted
 inserted-returns-in_ok-found-in-Inserted t c =
     let uses = named_at c.args.body.now.uses.now in
     let cx = typing_of c.args.body.now in
-    same_judgements (ap (λ p. all_judged cx (Each Inferred) c.args.self.now.locals.entries (inserted_of (p ∷ []))) (ap (piece uses) c.in-Inserted.is ∙ piece_inserted uses _))
-    (same_complete_of c.is_some.ensures (one cx (expr_tree uses c.in-Inserted.e) (Each Inferred) c.in_ok-found-in-Inserted.ensures))
+    same_judgements (ap (λ p. all_judged cx (Each Plain) c.args.self.now.locals.entries (inserted_of (p ∷ []))) (ap (piece uses) c.in-Inserted.is ∙ piece_inserted uses _))
+    (same_complete_of c.is_some.ensures (one cx (expr_tree uses c.in-Inserted.e) (Each Plain) c.in_ok-found-in-Inserted.ensures))
 
 pub leave-returns-in-None : goal.leave-returns-in-None
 leave-returns-in-None t c =
-    let uses = named_at c.args.body.now.uses.now in
-    same_tree (ap (λ w. Return' (whole c.args.number c.args.span) (seen_optional (option_map (seen uses) w))) c.in-None.is)
+    same_tree (ap (λ w. Return' (whole c.args.number c.args.span) (seen_optional (option_map (seen (named_at c.args.body.now.uses.now)) w))) c.in-None.is)
     (returns_bare (typing_of c.args.body.now) c.args.self.now (whole c.args.number c.args.span)
     (c.bare_return-claim.ensures (whole c.args.number c.args.span) refl ∙ ap (λ r. bare_return r (whole c.args.number c.args.span)) c.owner_result-gives.ensures) c.opened_tree.ensures)
 
@@ -377,46 +365,32 @@ leave-returns-in_ok-found-in-Some t c =
 pub branch-returns-in_ok-typed-in-Braced : goal.branch-returns-in_ok-typed-in-Braced
 branch-returns-in_ok-typed-in-Braced t c =
     let uses = named_at c.args.body.now.uses.now in
-    let last = λ (ts : Trees). by_last (all_judged (typing_of c.args.body.now) (Each Unvalued) c.args.self.now.locals.entries ts) in
-    same_judgements (ap last (ap (branch_trees uses) c.in-Braced.is ∙ branch_braced uses _ ∙ block_list uses _ ∙ ap (λ l. listed (map (stmt_tree uses) l)) (sym c.as_slice.ensures))) c.in_ok-typed-in-Braced.ensures
+    same_branch (typing_of c.args.body.now) (ap (branch_trees uses) c.in-Braced.is ∙ branch_braced uses _ ∙ block_list uses _ ∙ ap (λ l. listed (map (stmt_tree uses) l)) (sym c.as_slice.ensures)) c.in_ok-typed-in-Braced.ensures
 
 pub branch-returns-in_ok-found-in-Single : goal.branch-returns-in_ok-found-in-Single
 branch-returns-in_ok-found-in-Single t c =
     let uses = named_at c.args.body.now.uses.now in
     let cx = typing_of c.args.body.now in
-    let last = λ (ts : Trees). by_last (all_judged cx (Each Unvalued) c.args.self.now.locals.entries ts) in
-    same_judgements (ap last (ap (branch_trees uses) c.in-Single.is ∙ branch_single uses _))
+    same_branch cx (ap (branch_trees uses) c.in-Single.is ∙ branch_single uses _)
     (same_complete_of c.is_some.ensures (one_branch cx (stmt_tree uses c.in-Single.s) (Each Unvalued) c.in_ok-found-in-Single.ensures))
 
 pub otherwise-returns-in_ok-typed-in-Some : goal.otherwise-returns-in_ok-typed-in-Some
 otherwise-returns-in_ok-typed-in-Some t c =
     let uses = named_at c.args.body.now.uses.now in
-    let last = λ (ts : Trees). by_last (all_judged (typing_of c.args.body.now) (Each Unvalued) c.args.self.now.locals.entries ts) in
-    same_judgements (ap last (ap (λ w. otherwise (option_map (branch_trees uses) w)) c.in-Some.is ∙ ap (branch_trees uses) (sym c.get.ensures))) c.in_ok-typed-in-Some.ensures
+    same_branch (typing_of c.args.body.now) (ap (λ w. otherwise (option_map (branch_trees uses) w)) c.in-Some.is ∙ ap (branch_trees uses) (sym c.get.ensures)) c.in_ok-typed-in-Some.ensures
 
 pub otherwise-returns-in-None : goal.otherwise-returns-in-None
 otherwise-returns-in-None t c =
-    let uses = named_at c.args.body.now.uses.now in
     let cx = typing_of c.args.body.now in
-    let last = λ (ts : Trees). by_last (all_judged cx (Each Unvalued) c.args.self.now.locals.entries ts) in
-    same_judgements (ap last (ap (λ w. otherwise (option_map (branch_trees uses) w)) c.in-None.is)) (no_branch cx c.args.self.now (Each Unvalued))
+    same_branch cx (ap (λ w. otherwise (option_map (branch_trees (named_at c.args.body.now.uses.now)) w)) c.in-None.is) (no_branch cx c.args.self.now (Each Unvalued))
 
 pub statements-loop-s-preserved : goal.statements-loop-s-preserved
 statements-loop-s-preserved t c =
-    let uses = named_at c.args.body.now.uses.now in
-    let cx = typing_of c.args.body.now in
-    let xs = c.args.statements.now in
-    let i = c.loop-s.s-index in
-    step_branch cx (stmt_tree uses c.s-item.result) (listed (map (stmt_tree uses) (drop (i + 1) xs)))
-    (ap (all_judged cx (Each Unvalued) c.loop-s.self.locals.entries) (stmts_more uses xs (i + 1) i c.s-item.result (omega arith) (omega arith) c.s-item.is))
-    c.loop-s.invariant c.in_ok-found.ensures c.is_some-complete.ensures
+    next_statement (typing_of c.args.body.now) (named_at c.args.body.now.uses.now) c.args.statements.now c.loop-s.s-index c.s-item.result (omega arith) c.s-item.is c.loop-s.invariant c.in_ok-found.ensures c.is_some-complete.ensures
 
 pub statements-returns : goal.statements-returns
 statements-returns t c =
-    let uses = named_at c.args.body.now.uses.now in
-    let cx = typing_of c.args.body.now in
-    finish_branch cx
-    (ap (λ l. all_judged cx (Each Unvalued) c.loop-s.self.locals.entries (listed (map (stmt_tree uses) l))) (drop_all c.loop-s.s-index c.args.statements.now (omega arith))) c.loop-s.invariant
+    no_statement_left (typing_of c.args.body.now) (named_at c.args.body.now.uses.now) c.args.statements.now c.loop-s.s-index (omega arith) c.loop-s.invariant
 
 pub statements-loop-s-init : goal.statements-loop-s-init
 statements-loop-s-init t c =
@@ -499,31 +473,22 @@ assign-returns-in-None t c =
 
 pub assign_name-returns-in_ok-plain-in-Plain : goal.assign_name-returns-in_ok-plain-in-Plain
 assign_name-returns-in_ok-plain-in-Plain t c =
-    let uses = named_at c.args.body.now.uses.now in
-    let v = option_map (seen uses) c.args.value.now in
-    same_tree (ap (λ m. assign_tree m c.args.number c.args.span (Some c.args.word) c.args.assignment v) (sym c.in-Variable.ensures)
-    ∙ ap (λ a. assign_tree (named.Variable c.in-Variable.x c.in-Variable.field-1) c.args.number c.args.span (Some c.args.word) a v) c.in-Plain.is) (c.in_ok-plain-in-Plain.ensures c.in-Variable.field-1)
+    same_tree (assigned_as c.args.number c.args.span (Some c.args.word) (option_map (seen (named_at c.args.body.now.uses.now)) c.args.value.now) c.in-Variable.ensures c.in-Plain.is)
+    (c.in_ok-plain-in-Plain.ensures c.in-Variable.field-1)
 
 pub assign_name-returns-in_ok-made-in-Sum : goal.assign_name-returns-in_ok-made-in-Sum
 assign_name-returns-in_ok-made-in-Sum t c =
-    let uses = named_at c.args.body.now.uses.now in
-    let v = option_map (seen uses) c.args.value.now in
-    same_tree (ap (λ m. assign_tree m c.args.number c.args.span (Some c.args.word) c.args.assignment v) (sym c.in-Variable.ensures)
-    ∙ ap (λ a. assign_tree (named.Variable c.in-Variable.x c.in-Variable.field-1) c.args.number c.args.span (Some c.args.word) a v) c.in-Sum.is)
+    same_tree (assigned_as c.args.number c.args.span (Some c.args.word) (option_map (seen (named_at c.args.body.now.uses.now)) c.args.value.now) c.in-Variable.ensures c.in-Sum.is)
     (c.in_ok-made-in-Sum.ensures c.in-Variable.field-1 Sum' (ap compound_of c.in-Sum.is))
 
 pub assign_name-returns-in_ok-made-in-Arithmetic : goal.assign_name-returns-in_ok-made-in-Arithmetic
 assign_name-returns-in_ok-made-in-Arithmetic t c =
-    let uses = named_at c.args.body.now.uses.now in
-    let v = option_map (seen uses) c.args.value.now in
-    same_tree (ap (λ m. assign_tree m c.args.number c.args.span (Some c.args.word) c.args.assignment v) (sym c.in-Variable.ensures)
-    ∙ ap (λ a. assign_tree (named.Variable c.in-Variable.x c.in-Variable.field-1) c.args.number c.args.span (Some c.args.word) a v) c.in-Arithmetic.is)
+    same_tree (assigned_as c.args.number c.args.span (Some c.args.word) (option_map (seen (named_at c.args.body.now.uses.now)) c.args.value.now) c.in-Variable.ensures c.in-Arithmetic.is)
     (c.in_ok-made-in-Arithmetic.ensures c.in-Variable.field-1 (Arithmetic' c.in-Arithmetic.field-0) (ap compound_of c.in-Arithmetic.is))
 
 pub assign_name-returns-in_default : goal.assign_name-returns-in_default
 assign_name-returns-in_default t c =
-    let uses = named_at c.args.body.now.uses.now in
-    let v = option_map (seen uses) c.args.value.now in
+    let v = option_map (seen (named_at c.args.body.now.uses.now)) c.args.value.now in
     same_tree (ap (λ m. assign_tree m c.args.number c.args.span (Some c.args.word) c.args.assignment v) (sym c.named.ensures) ∙ no_target c.named.result c.args.number c.args.span (Some c.args.word) c.args.assignment v c.in_default.not-Variable)
     (opens_shut (typing_of c.args.body.now) c.args.self.now (whole c.args.number c.args.span) c.shut.ensures)
 
@@ -540,9 +505,8 @@ plain-returns-in_ok-found-in-Some t c fixed =
 
 pub plain-returns-in-None : goal.plain-returns-in-None
 plain-returns-in-None t c fixed =
-    let uses = named_at c.args.body.now.uses.now in
     let n = named_there c.args.number c.args.span c.args.word in
-    same_tree (ap (λ w. assigned_tree n c.args.x fixed None (option_map (seen uses) w)) c.in-None.is) (opens_shut (typing_of c.args.body.now) c.args.self.now n c.shut.ensures)
+    same_tree (ap (λ w. assigned_tree n c.args.x fixed None (option_map (seen (named_at c.args.body.now.uses.now)) w)) c.in-None.is) (opens_shut (typing_of c.args.body.now) c.args.self.now n c.shut.ensures)
 
 pub operand-returns-in_ok-found-in-Some : goal.operand-returns-in_ok-found-in-Some
 operand-returns-in_ok-found-in-Some t c =
@@ -553,9 +517,8 @@ operand-returns-in_ok-found-in-Some t c =
 
 pub operand-returns-in-None : goal.operand-returns-in-None
 operand-returns-in-None t c =
-    let uses = named_at c.args.body.now.uses.now in
     let cx = typing_of c.args.body.now in
-    same_judgements (ap (λ w. all_judged cx (Each c.args.way) c.args.self.now.locals.entries (seen_optional (option_map (seen uses) w))) c.in-None.is) (nothing cx c.args.self.now (Each c.args.way))
+    same_judgements (ap (λ w. all_judged cx (Each c.args.way) c.args.self.now.locals.entries (seen_optional (option_map (seen (named_at c.args.body.now.uses.now)) w))) c.in-None.is) (nothing cx c.args.self.now (Each c.args.way))
 
 pub compound-returns : goal.compound-returns
 compound-returns t c fixed o is =

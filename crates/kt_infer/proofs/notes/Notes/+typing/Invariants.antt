@@ -2,9 +2,9 @@ use Rattle.std.proofs.Common.{map, drop, take}
 use Rattle.kt_model.specs.NameUses.{named_at}
 use Rattle.kt_model.specs.BodyTrees.{stmt_tree, listed, seen, seen_trees, piece, inserted_of}
 use Rattle.kt_typing.specs.Typing.{Each, all_judged}
-use Rattle.kt_typing.specs.declared.claims.Way.TheVariants.{Unvalued, Inferred}
+use Rattle.kt_typing.specs.declared.claims.Way.TheVariants.{Unvalued, Plain}
 use Rattle.kt_infer.specs.Demands.{as_ways, ways_from}
-use Rattle.kt_infer.specs.Noting.{Continues, ContinuesBranch, typing_of}
+use Rattle.kt_infer.specs.Noting.{Continues, ContinuesBranch, ContinuesLeading, typing_of}
 use Rattle.kt_infer.proofs.notes.Notes.+typing.Given as goal
 
 abbrev pub invariant-arguments-loop-place : goal.invariant-arguments-loop-place
@@ -17,8 +17,8 @@ invariant-arguments-loop-place l =
 abbrev pub invariant-pieces-loop-part : goal.invariant-pieces-loop-part
 invariant-pieces-loop-part l =
     let uses = named_at l.body.uses.now in
-    Continues l.fn.self l.self (all_judged (typing_of l.body) (Each Inferred) l.fn.self.locals.entries (inserted_of (map (piece uses) l.parts)))
-    (all_judged (typing_of l.body) (Each Inferred) l.self.locals.entries (inserted_of (map (piece uses) (drop l.part-index l.parts)))) l.complete
+    Continues l.fn.self l.self (all_judged (typing_of l.body) (Each Plain) l.fn.self.locals.entries (inserted_of (map (piece uses) l.parts)))
+    (all_judged (typing_of l.body) (Each Plain) l.self.locals.entries (inserted_of (map (piece uses) (drop l.part-index l.parts)))) l.complete
 
 abbrev pub invariant-statements-loop-s : goal.invariant-statements-loop-s
 invariant-statements-loop-s l =
@@ -29,5 +29,5 @@ invariant-statements-loop-s l =
 abbrev pub invariant-leading-loop-place : goal.invariant-leading-loop-place
 invariant-leading-loop-place l =
     let uses = named_at l.body.uses.now in
-    ContinuesBranch l.fn.self l.self (all_judged (typing_of l.body) (Each Unvalued) l.fn.self.locals.entries (listed (map (stmt_tree uses) (take l.count l.statements))))
-    (all_judged (typing_of l.body) (Each Unvalued) l.self.locals.entries (listed (map (stmt_tree uses) (drop l.place (take l.count l.statements))))) l.complete
+    ContinuesLeading l.fn.self l.self (all_judged (typing_of l.body) (Each Unvalued) l.fn.self.locals.entries (listed (map (stmt_tree uses) (take l.count l.statements))))
+    (all_judged (typing_of l.body) (Each Unvalued) l.self.locals.entries (listed (map (stmt_tree uses) (drop l.place (take l.count l.statements))))) l.nothing

@@ -18,7 +18,7 @@ unreachable-requires g c =
     let go = part resolved depth in
     let uses = resolved.uses.now in
     let found : slice_get resolved.file.now.functions c.args.place ≡ None = sym c.get.ensures.value ∙ ap option_copied c.in-None.is in
-    wrong_comes state (subst (λ f. Right (called p go (option_map (function_of uses c.args.place) f) c.args.values.now) state) found c.requires.right)
+    wrong_comes state (subst (λ f. Right (called p go (option_map (function_of uses c.args.place) f) c.args.values) state) found c.requires.right)
 
 pub invoke-requires : goal.invoke-requires
 invoke-requires g c =
@@ -30,8 +30,8 @@ invoke-requires g c =
     let go = part resolved depth in
     let uses = resolved.uses.now in
     let f = function_of uses c.args.place c.in-Some.function.now in
-    let right : Right (called p go (Some f) c.args.values.now) state = subst (λ x. Right (called p go (option_map (function_of uses c.args.place) x) c.args.values.now) state) (sym c.in-Some.ensures.value) c.requires.right in
-    record { nests = c.requires.nests; fits = called_length p go f c.args.values.now state right; right = same_right _ _ state (called_same p go f c.args.values.now state right) right }
+    let right : Right (called p go (Some f) c.args.values) state = subst (λ x. Right (called p go (option_map (function_of uses c.args.place) x) c.args.values) state) (sym c.in-Some.ensures.value) c.requires.right in
+    record { nests = c.requires.nests; fits = called_length p go f c.args.values state right; right = same_right _ _ state (called_same p go f c.args.values state right) right }
 
 pub returns : goal.returns
 returns g c =
@@ -44,6 +44,6 @@ returns g c =
     let uses = resolved.uses.now in
     let f = function_of uses c.args.place c.in-Some.function.now in
     let after = scene c.invoke.new.state (g.O.Output.state c.invoke.new.out) in
-    let right : Right (called p go (Some f) c.args.values.now) state = subst (λ x. Right (called p go (option_map (function_of uses c.args.place) x) c.args.values.now) state) (sym c.in-Some.ensures.value) c.requires.right in
-    subst (λ x. Runs (called p go (option_map (function_of uses c.args.place) x) c.args.values.now) (scene state out) c.invoke.result after) c.in-Some.ensures.value
-    (same_runs _ _ (scene state out) c.invoke.result after (called_same p go f c.args.values.now state right) c.invoke.ensures)
+    let right : Right (called p go (Some f) c.args.values) state = subst (λ x. Right (called p go (option_map (function_of uses c.args.place) x) c.args.values) state) (sym c.in-Some.ensures.value) c.requires.right in
+    subst (λ x. Runs (called p go (option_map (function_of uses c.args.place) x) c.args.values) (scene state out) c.invoke.result after) c.in-Some.ensures.value
+    (same_runs _ _ (scene state out) c.invoke.result after (called_same p go f c.args.values state right) c.invoke.ensures)

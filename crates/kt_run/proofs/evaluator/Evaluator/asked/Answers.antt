@@ -2,8 +2,8 @@ use Rattle.std.proofs.Common.{Ok, Bool}
 use Rattle.kt_mean.specs.declared.states.Value.{Value}
 use Rattle.kt_mean.specs.Evaluation.{truth_of}
 use Rattle.kt_run.specs.Scene.{scene}
-use Rattle.kt_run.proofs.Chain.{first_right, next_right, then_runs, exit_by}
-use Rattle.kt_run.proofs.Steps.{truth_some, truth_runs}
+use Rattle.kt_run.proofs.Chain.{first_right, next_right, then_runs, exit_by, quiet_runs}
+use Rattle.kt_run.proofs.Steps.{truth_some, truth_quiet}
 use Rattle.kt_run.proofs.evaluator.Evaluator.asked.Goals as goal
 
 pub boxed-requires-clause-right : goal.boxed-requires-clause-right
@@ -21,4 +21,4 @@ truth-requires g c =
 pub returns : goal.returns
 returns g c =
     let here = scene c.boxed.new.state (g.O.Output.state c.boxed.new.out) in
-    then_runs {A = Value} {B = Bool} _ truth_of _ _ here (Ok c.truth.result) here c.in_ok-value.ensures (truth_runs c.in_ok-value.value c.truth.result here c.truth.ensures)
+    then_runs {A = Value} {B = Bool} _ truth_of _ _ here (Ok c.truth.result) here c.in_ok-value.ensures (quiet_runs (truth_of c.in_ok-value.value) here.state (Ok c.truth.result) here.state here.out (truth_quiet c.in_ok-value.value c.truth.result here.state c.truth.ensures))

@@ -1,8 +1,6 @@
-use Rattle.std.proofs.Common.{Ok}
 use Rattle.kt_mean.specs.declared.states.Value.{Value}
-use Rattle.kt_run.proofs.Chain.{first_right, next_right, then_runs, error_by, exit_by, same_right}
+use Rattle.kt_run.proofs.Chain.{first_right, next_right, then_runs, exit_by, quiet_runs}
 use Rattle.kt_run.specs.Scene.{scene}
-use Rattle.kt_run.proofs.Steps.{makes_some, makes_runs, makes_leave, operated_two}
 use Rattle.kt_run.proofs.evaluator.Evaluator.binary.Goals as goal
 
 pub boxed-requires : goal.boxed-requires
@@ -19,21 +17,12 @@ returns-in_err-right g c =
     then_runs {B = Value} _ _ _ _ _ _ _ c.in_ok-left.ensures (exit_by {B = Value} _ _ _ _ _ _ c.from_residual-in_err-right.ensures.1 c.in_err-right.ensures)
 
 pub combine-requires : goal.combine-requires
-combine-requires g c =
-    makes_some _ c.boxed-2.new.state
-    (same_right _ _ _ (operated_two c.args.operator c.in_ok-left.left c.in_ok-right.right)
-    (next_right _ _ _ _ _ (next_right _ _ _ _ _ c.requires.right c.in_ok-left.ensures) c.in_ok-right.ensures))
-
-pub returns-in_err-value : goal.returns-in_err-value
-returns-in_err-value g c =
-    let here = scene c.boxed-2.new.state (g.O.Output.state c.boxed-2.new.out) in
-    then_runs {B = Value} _ _ _ _ _ _ here c.in_ok-left.ensures
-    (then_runs {B = Value} _ _ _ _ here _ here c.in_ok-right.ensures
-    (error_by _ here here _ _ c.from_residual-in_err-value.ensures.1 (makes_leave _ _ _ here (operated_two c.args.operator c.in_ok-left.left c.in_ok-right.right) c.in_err-value.ensures)))
+combine-requires g c = record { right = next_right _ _ _ _ _ (next_right _ _ _ _ _ c.requires.right c.in_ok-left.ensures) c.in_ok-right.ensures }
 
 pub returns : goal.returns
 returns g c =
     let here = scene c.boxed-2.new.state (g.O.Output.state c.boxed-2.new.out) in
-    then_runs {B = Value} _ _ _ _ _ (Ok c.in_ok-value.value) here c.in_ok-left.ensures
-    (then_runs {B = Value} _ _ _ _ here (Ok c.in_ok-value.value) here c.in_ok-right.ensures
-    (makes_runs _ _ c.in_ok-value.value here (operated_two c.args.operator c.in_ok-left.left c.in_ok-right.right) c.in_ok-value.ensures))
+    let end = scene c.combine.new.state here.out in
+    then_runs {B = Value} _ _ _ _ _ c.combine.result end c.in_ok-left.ensures
+    (then_runs {B = Value} _ _ _ _ here c.combine.result end c.in_ok-right.ensures
+    (quiet_runs _ c.boxed-2.new.state c.combine.result c.combine.new.state here.out c.combine.ensures))

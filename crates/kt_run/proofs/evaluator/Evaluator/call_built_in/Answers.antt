@@ -4,7 +4,6 @@ use Rattle.kt_mean.specs.Evaluation as spec
 use Rattle.kt_run.specs.Scene.{scene, Right, Runs}
 use Rattle.kt_run.specs.Running.{program_seen, part}
 use Rattle.kt_run.proofs.Chain.{first_right, next_right, then_runs, exit_by, same_right, same_runs}
-use Rattle.kt_run.proofs.Steps.{printed_some, built_in_runs}
 use Rattle.kt_run.proofs.FormSteps.{values_same}
 use Rattle.kt_run.proofs.evaluator.Evaluator.call_built_in.Goals as goal
 
@@ -37,7 +36,7 @@ built_in-requires g c =
     let p = program_seen resolved in
     let go = part resolved depth in
     let right = next_right _ (spec.built_in c.args.name) _ _ _ (same_right _ _ state (values_same p go _ (spec.built_in c.args.name)) c.requires.right) c.in_ok-values.ensures in
-    printed_some c.args.name c.as_slice.result.now c.arguments.new.state (subst (λ (vs : List Value). Right (spec.built_in c.args.name vs) c.arguments.new.state) (sym c.as_slice.ensures) right)
+    record { right = subst (λ (vs : List Value). Right (spec.built_in c.args.name vs) c.arguments.new.state) (sym c.as_slice.ensures) right }
 
 pub returns : goal.returns
 returns g c =
@@ -48,10 +47,7 @@ returns g c =
     let p = program_seen resolved in
     let go = part resolved depth in
     let after = scene c.arguments.new.state (g.O.Output.state c.arguments.new.out) in
-    let end = scene c.arguments.new.state (g.O.Output.state c.built_in.new.out) in
-    let right = next_right _ (spec.built_in c.args.name) _ _ _ (same_right _ _ state (values_same p go _ (spec.built_in c.args.name)) c.requires.right) c.in_ok-values.ensures in
-    let some = printed_some c.args.name c.as_slice.result.now c.arguments.new.state (subst (λ (vs : List Value). Right (spec.built_in c.args.name vs) c.arguments.new.state) (sym c.as_slice.ensures) right) in
+    let end = scene c.built_in.new.state (g.O.Output.state c.built_in.new.out) in
     same_runs _ _ (scene state out) c.built_in.result end (values_same p go _ (spec.built_in c.args.name))
     (then_runs {B = Value} _ (spec.built_in c.args.name) _ _ after c.built_in.result end c.in_ok-values.ensures
-    (subst (λ (vs : List Value). Runs (spec.built_in c.args.name vs) after c.built_in.result end) c.as_slice.ensures
-    (built_in_runs c.args.name c.as_slice.result.now c.arguments.new.state after.out end.out c.built_in.result some c.built_in.ensures)))
+    (subst (λ (vs : List Value). Runs (spec.built_in c.args.name vs) after c.built_in.result end) c.as_slice.ensures c.built_in.ensures))

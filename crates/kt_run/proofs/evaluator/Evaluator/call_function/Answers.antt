@@ -1,8 +1,7 @@
-use Rattle.std.proofs.Common.{sym, subst, List}
 use Rattle.kt_mean.specs.declared.states.Value.{Value}
 use Rattle.kt_mean.specs.Evaluation.{called}
 use Rattle.kt_mean.specs.Programs.{function_at}
-use Rattle.kt_run.specs.Scene.{scene, Right, Runs}
+use Rattle.kt_run.specs.Scene.{scene}
 use Rattle.kt_run.specs.Running.{program_seen, part}
 use Rattle.kt_run.proofs.Chain.{first_right, next_right, then_runs, exit_by, same_right, same_runs}
 use Rattle.kt_run.proofs.FormSteps.{values_same}
@@ -43,7 +42,7 @@ apply-requires g c =
     let uses = resolved.uses.now in
     let f = called p go (function_at resolved.file.now uses c.args.place) in
     let right = next_right _ f _ _ _ (same_right _ _ state (values_same p go _ f) c.requires.right) c.in_ok-values.ensures in
-    record { nests = c.requires.nests; right = subst (λ (vs : List Value). Right (f vs) c.arguments.new.state) (sym c.as_slice.ensures) right }
+    record { nests = c.requires.nests; right = right }
 
 pub returns : goal.returns
 returns g c =
@@ -58,5 +57,4 @@ returns g c =
     let after = scene c.arguments.new.state (g.O.Output.state c.arguments.new.out) in
     let end = scene c.apply.new.state (g.O.Output.state c.apply.new.out) in
     same_runs _ _ (scene state out) c.apply.result end (values_same p go _ f)
-    (then_runs {B = Value} _ f _ _ after c.apply.result end c.in_ok-values.ensures
-    (subst (λ (vs : List Value). Runs (f vs) after c.apply.result end) c.as_slice.ensures c.apply.ensures))
+    (then_runs {B = Value} _ f _ _ after c.apply.result end c.in_ok-values.ensures c.apply.ensures)

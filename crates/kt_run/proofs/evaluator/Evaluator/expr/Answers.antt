@@ -1,9 +1,8 @@
 use Rattle.std.proofs.Common.{Ok, map, refl, sym, ap, subst, ◌∙◌}
 use Rattle.kt_tree.specs.declared.ast.body.ExprKind.TheVariants as e
-use Rattle.kt_model.specs.BodyTrees.{Tree, seen as seen_in, seen_trees, piece, inserted_of, named_there, shut}
+use Rattle.kt_model.specs.BodyTrees.{Template', Tree, seen as seen_in, seen_trees, piece, inserted_of, texts_of, named_there, shut}
 use Rattle.kt_model.proofs.BodyFolds.{tree_of_kind, kind_int, kind_bool, kind_null, kind_name, kind_template, kind_paren, kind_call, kind_call_with, kind_sign, kind_not, kind_sum, kind_arithmetic, kind_compare, kind_equal, kind_and, kind_or, kind_if_any, kind_return_any, kind_return_at_any, kind_throw, kind_other}
-use Rattle.kt_mean.specs.Frames.{wrong}
-use Rattle.kt_mean.specs.Evaluation.{with_values}
+use Rattle.kt_mean.specs.Evaluation.{with_values, operated}
 use Rattle.kt_mean.specs.declared.states.Value.TheVariants as value
 use Rattle.kt_run.specs.Scene.{scene, Right, Runs}
 use Rattle.kt_run.specs.Running.{program_seen, part, names, shape, call_run}
@@ -102,7 +101,7 @@ template-requires-clause-right g c =
     let p = program_seen resolved in
     let go = part resolved depth in
     let uses = names resolved in
-    subst (λ xs. Right (with_values p go (inserted_of (map (piece uses) xs)) (λ vs. wrong)) state) (sym c.as_slice.ensures) (subst (λ (t : Tree). Right (shape resolved depth t) state) (tree_of_kind uses c.args.e.now _ _ c.in-Template.is (kind_template uses _)) c.requires.right)
+    subst (λ xs. Right (with_values p go (inserted_of (map (piece uses) xs)) (operated (Template' (texts_of (map (piece uses) xs))))) state) (sym c.as_slice.ensures) (subst (λ (t : Tree). Right (shape resolved depth t) state) (tree_of_kind uses c.args.e.now _ _ c.in-Template.is (kind_template uses _)) c.requires.right)
 
 pub returns-in-Template : goal.returns-in-Template
 returns-in-Template g c =
@@ -116,7 +115,7 @@ returns-in-Template g c =
     let here = scene state out in
     let end = scene c.template.new.state (g.O.Output.state c.template.new.out) in
     subst (λ (t : Tree). Runs (shape resolved depth t) here c.template.result end) (sym (tree_of_kind uses c.args.e.now _ _ c.in-Template.is (kind_template uses _)))
-    (subst (λ xs. Runs (with_values p go (inserted_of (map (piece uses) xs)) (λ vs. wrong)) here c.template.result end) c.as_slice.ensures c.template.ensures)
+    (subst (λ xs. Runs (with_values p go (inserted_of (map (piece uses) xs)) (operated (Template' (texts_of (map (piece uses) xs))))) here c.template.result end) c.as_slice.ensures c.template.ensures)
 
 pub boxed-requires-clause-right : goal.boxed-requires-clause-right
 boxed-requires-clause-right g c =

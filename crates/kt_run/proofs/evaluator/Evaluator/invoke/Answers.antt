@@ -22,7 +22,7 @@ returns-then-state-ge-MOST_CALLS g c =
     let go = part resolved depth in
     let f = function_of resolved.uses.now c.args.place c.args.function.now in
     let full : most_calls ≤ state.calls = omega arith in
-    too_many p go (spec.invoke p go f c.args.values.now) state out full
+    too_many p go (spec.invoke p go f c.args.values) state out full
 
 pub body-answer-requires-clause-right : goal.body-answer-requires-clause-right
 body-answer-requires-clause-right g c =
@@ -33,10 +33,10 @@ body-answer-requires-clause-right g c =
     let p = program_seen resolved in
     let go = part resolved depth in
     let f = function_of resolved.uses.now c.args.place c.args.function.now in
-    let body : Kept = record { frame = c.replace-caller.new.dest; calls = state.calls + 1; steps = state.steps } in
-    let begins = λ (input : List ℕ). ap (begun_with p go state input) (ap held c.replace-caller.ensures.after ∙ c.in_ok-frame.ensures ∙ ap (λ xs. new_locals xs c.args.values.now) c.parameters-parameters.ensures) in
+    let body : Kept = record state { frame = c.replace-caller.new.dest; calls = state.calls + 1 } in
+    let begins = λ (input : List ℕ). ap (begun_with p go state input) (ap held c.replace-caller.ensures.after ∙ c.in_ok-frame.ensures ∙ ap (λ xs. new_locals xs c.args.values) c.parameters-parameters.ensures) in
     let within : state.calls < most_calls = omega arith in
-    body_right p go f c.args.values.now state body begins within c.requires.right
+    body_right p go f c.args.values state body begins within c.requires.right
 
 pub returns : goal.returns
 returns g c =
@@ -47,12 +47,12 @@ returns g c =
     let p = program_seen resolved in
     let go = part resolved depth in
     let f = function_of resolved.uses.now c.args.place c.args.function.now in
-    let body : Kept = record { frame = c.replace-caller.new.dest; calls = state.calls + 1; steps = state.steps } in
-    let begins = λ (input : List ℕ). ap (begun_with p go state input) (ap held c.replace-caller.ensures.after ∙ c.in_ok-frame.ensures ∙ ap (λ xs. new_locals xs c.args.values.now) c.parameters-parameters.ensures) in
+    let body : Kept = record state { frame = c.replace-caller.new.dest; calls = state.calls + 1 } in
+    let begins = λ (input : List ℕ). ap (begun_with p go state input) (ap held c.replace-caller.ensures.after ∙ c.in_ok-frame.ensures ∙ ap (λ xs. new_locals xs c.args.values) c.parameters-parameters.ensures) in
     let within : state.calls < most_calls = omega arith in
-    let whole = limited (spec.invoke p go f c.args.values.now) in
+    let whole = limited (spec.invoke p go f c.args.values) in
     let start = scene state out in
     let after = scene c.body-answer.new.state (g.O.Output.state c.body-answer.new.out) in
-    subst (λ (fr : Frame). Runs whole start c.call_end.result (scene (record { frame = fr; calls = state.calls; steps = after.state.steps }) after.out)) (sym c.replace-caller.ensures.value)
-    (subst (λ (r : Result Value Halt). Runs whole start r (scene (record { frame = state.frame; calls = state.calls; steps = after.state.steps }) after.out)) (sym c.call_end.ensures)
-    (invoke_runs p go f c.args.values.now state body out c.body-answer.result after begins within c.requires.right c.body-answer.ensures))
+    subst (λ (fr : Frame). Runs whole start c.call_end.result (scene (record after.state { frame = fr; calls = state.calls }) after.out)) (sym c.replace-caller.ensures.value)
+    (subst (λ (r : Result Value Halt). Runs whole start r (scene (record after.state { frame = state.frame; calls = state.calls }) after.out)) (sym c.call_end.ensures)
+    (invoke_runs p go f c.args.values state body out c.body-answer.result after begins within c.requires.right c.body-answer.ensures))
