@@ -1,7 +1,18 @@
 mod accepted;
+mod branches;
+mod exceptions;
+mod functions;
+mod heights;
 mod large;
+mod limits;
+mod refused_branches;
 mod refused_files;
+mod refused_forms;
+mod refused_functions;
+mod refused_paths;
 mod refused_texts;
+mod refused_types;
+mod values;
 
 use kt_outside::{MemoryInput, MemoryLibrary, MemoryOutput};
 use ktflow::ktflow;

@@ -35,7 +35,11 @@ fn a_source_is_refused_by_one_rule(rt: HostRuntime) -> Result<(), Fail> {
     );
     assert_eq!(&rt;
         refusal(alloc, b"fun main() { if }")?,
-        Some((Rule::Syntax, 13, 15))
+        Some((Rule::Syntax, 16, 17))
+    );
+    assert_eq!(&rt;
+        refusal(alloc, b"fun main() { while (true) { } }")?,
+        Some((Rule::Syntax, 13, 18))
     );
     Ok(())
 }

@@ -5,7 +5,7 @@ use std::alloc::Global;
 use std::process::Abort;
 use std::test::Fail;
 
-fn answers(
+pub(super) fn answers(
     rt: &impl Abort,
     alloc: Global,
     source: Vec<u8>,

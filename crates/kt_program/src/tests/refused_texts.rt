@@ -83,7 +83,7 @@ const TOKENS: [(&[u8], &[u8]); 19] = [
 ];
 
 // Tokens that no open row of the grammar fits.
-const SYNTAX: [(&[u8], &[u8]); 33] = [
+const SYNTAX: [(&[u8], &[u8]); 21] = [
     (
         b"fun main() { println(1",
         b"1:23-1:23 SYNTAX unexpected token\nrefused findings=1\n",
@@ -109,22 +109,6 @@ const SYNTAX: [(&[u8], &[u8]); 33] = [
         b"1:10-1:11 SYNTAX unexpected token\nrefused findings=1\n",
     ),
     (
-        b"fun main() { } fun f() { }",
-        b"1:16-1:19 SYNTAX unexpected token\nrefused findings=1\n",
-    ),
-    (
-        b"fun main(x: Int) { }",
-        b"1:10-1:11 SYNTAX unexpected token\nrefused findings=1\n",
-    ),
-    (
-        b"fun main(): Unit { }",
-        b"1:11-1:12 SYNTAX unexpected token\nrefused findings=1\n",
-    ),
-    (
-        b"fun main() = println(1)",
-        b"1:12-1:13 SYNTAX unexpected token\nrefused findings=1\n",
-    ),
-    (
         b"class A",
         b"1:1-1:6 SYNTAX unexpected token\nrefused findings=1\n",
     ),
@@ -135,14 +119,6 @@ const SYNTAX: [(&[u8], &[u8]); 33] = [
     (
         b"import kotlin.io.*\nfun main() { }",
         b"1:15-1:17 SYNTAX unexpected token\nrefused findings=1\n",
-    ),
-    (
-        b"fun main() { if }",
-        b"1:14-1:16 SYNTAX unexpected token\nrefused findings=1\n",
-    ),
-    (
-        b"fun main() { return }",
-        b"1:14-1:20 SYNTAX unexpected token\nrefused findings=1\n",
     ),
     (
         b"fun main() { while (1) { } }",
@@ -165,40 +141,16 @@ const SYNTAX: [(&[u8], &[u8]); 33] = [
         b"1:20-1:21 SYNTAX unexpected token\nrefused findings=1\n",
     ),
     (
-        b"fun main() { x /= 2 }",
-        b"1:16-1:18 SYNTAX unexpected token\nrefused findings=1\n",
-    ),
-    (
         b"fun main() { println { 1 } }",
         b"1:22-1:23 SYNTAX unexpected token\nrefused findings=1\n",
-    ),
-    (
-        b"fun main() { println(1 / 2) }",
-        b"1:24-1:25 SYNTAX unexpected token\nrefused findings=1\n",
-    ),
-    (
-        b"fun main() { println(1 < 2) }",
-        b"1:24-1:25 SYNTAX unexpected token\nrefused findings=1\n",
     ),
     (
         b"fun main() { println(1;) }",
         b"1:23-1:24 SYNTAX unexpected token\nrefused findings=1\n",
     ),
     (
-        b"fun main() { println(true) }",
-        b"1:22-1:26 SYNTAX unexpected token\nrefused findings=1\n",
-    ),
-    (
-        b"fun main() { println(!1) }",
-        b"1:22-1:23 SYNTAX unexpected token\nrefused findings=1\n",
-    ),
-    (
         b"fun main() { println(--5) }",
         b"1:22-1:24 SYNTAX unexpected token\nrefused findings=1\n",
-    ),
-    (
-        b"fun main() { println(\"a\") }",
-        b"1:22-1:23 SYNTAX unexpected token\nrefused findings=1\n",
     ),
     (
         b"fun main() { println(1) println(2) }",

@@ -3,7 +3,7 @@ use crate::grammar::phrase::Form;
 use crate::grammar::terminal::Terminal;
 
 /// The step of the language's growth that is open: rows of later steps are shut.
-pub const OPEN: u8 = 2;
+pub const OPEN: u8 = 3;
 
 /// A part of the grammar with alternatives of its own: each named part, option, repetition, list and choice.
 #[derive(Clone, Copy)]
